@@ -1,0 +1,5 @@
+-- The laws of the claim file.
+pub mod FileLaws
+pub mod AcceptedLaws
+pub mod DayLaws
+pub mod Examples

@@ -1,0 +1,217 @@
+// The reader of claim files, a line a case: a name for the file, then what is told of it.
+mod build;
+mod tell;
+
+use build::day;
+use build::put;
+use build::space;
+use claimfile::TOP;
+use claimfile::claim_at;
+use claimfile::group_at;
+use tell::beginnings;
+use tell::claim;
+use tell::group;
+use tell::number;
+use tell::show;
+use tell::show_first;
+use tell::text;
+ghost use Prim.Native.Nat.{_≤_};
+
+// A 16-bit number that is stored at a place of a file. A kind is one byte; the byte behind it is 0 in the edited file.
+struct Edit {
+    at: usize,
+    to: usize,
+}
+
+// The edited file has 3 card groups, 3 shop groups and 2 claims: these are some places in it and its length.
+const CARD_PARENT: usize = 10;
+
+const SHOP_PARENT: usize = 24;
+
+const CARD: usize = 30;
+
+const SHOP: usize = 32;
+
+const KIND: usize = 34;
+
+const LENGTH: usize = 40;
+// Its faults: the last group of a section is its own parent, a count is one too large, a claim names a group that its
+// section lacks, a kind is 2. NONE stores the card count that is there.
+const NONE: Edit = Edit { at: 0, to: 3 };
+
+const CARD_LOOP: Edit = Edit { at: 10, to: 2 };
+
+const MANY_SHOPS: Edit = Edit { at: 14, to: 257 };
+
+const SHOP_LOOP: Edit = Edit { at: 24, to: 2 };
+
+const MANY_CLAIMS: Edit = Edit { at: 28, to: 513 };
+
+const NO_CARD: Edit = Edit { at: 30, to: 3 };
+
+const NO_SHOP: Edit = Edit { at: 32, to: 3 };
+
+const NO_KIND: Edit = Edit { at: 34, to: 2 };
+
+const NEXT_NO_CARD: Edit = Edit { at: 35, to: 3 };
+
+const NEXT_NO_KIND: Edit = Edit { at: 39, to: 2 };
+// The largest number of its type.
+const FAR: usize = 18446744073709551615;
+
+// Document 01's examples and its day E.
+fn examples() {
+    show(b"example 1", b"\x00");
+    show(b"example 2", b"\x01\x01");
+    show(b"example 3", b"\x01\x00\x00\x00\x05\x00");
+    show(b"example 4", b"\x00\x00\x00\x00\x01\x02");
+    show(
+        b"example 5",
+        b"\x00\x00\x00\x00\x01\x00\x00\x00\x00\x00\x00",
+    );
+    show(
+        b"example 6",
+        b"\x01\x00\xff\xff\x01\x00\x01\x00\xff\xff\x01\x00\x01\x00\x00\x00\x00\x00\x02",
+    );
+    show(b"example 7", b"\x00\x00\x00\x00\x00\x00\x00");
+    show(b"day E", b"\x00\x00\x00\x00\x00\x00");
+}
+
+// Day A: every beginning of it, and one byte too many.
+fn day_a() {
+    beginnings(
+        b"day A,",
+        b"\x02\x00\xff\xff\x01\x00\xff\xff\x01\x00\x02\x00\xff\xff\x01\x00\xff\xff\x01\x00\x03\x00\x00\x00\x00\x00\x01\x00\x00\x01\x00\x00\x01\x00\x00\x00\x00",
+    );
+    show(
+        b"day A and a byte",
+        b"\x02\x00\xff\xff\x01\x00\xff\xff\x01\x00\x02\x00\xff\xff\x01\x00\xff\xff\x01\x00\x03\x00\x00\x00\x00\x00\x01\x00\x00\x01\x00\x00\x01\x00\x00\x00\x00\x00",
+    );
+}
+
+fn counted(name: &[u8], cards: usize, shops: usize, rows: usize)
+    requires { ⌜ (cards ≤ 257) × (shops ≤ 257) × (rows ≤ 513) ⌝ }
+{
+    let mut buf = space();
+    let n = day(&mut buf, cards, shops, rows);
+    show_first(name, &buf, n);
+}
+
+// Counts on both sides of each bound, and the longest file.
+fn counts() {
+    counted(b"256 card groups", 256, 0, 0);
+    counted(b"257 card groups", 257, 0, 0);
+    counted(b"256 shop groups", 0, 256, 0);
+    counted(b"257 shop groups", 0, 257, 0);
+    counted(b"512 claims", 1, 1, 512);
+    counted(b"513 claims", 1, 1, 513);
+    counted(b"4614 bytes", 256, 256, 512);
+}
+
+fn one_byte_more() {
+    let mut buf = space();
+    day(&mut buf, 256, 256, 512);
+    show_first(b"4615 bytes", &buf, 4615);
+}
+
+// The first `n` bytes of the edited file.
+fn edited(name: &[u8], one: Edit, other: Edit, n: usize) {
+    let mut buf = space();
+    day(&mut buf, 3, 3, 2);
+    put(&mut buf, one.at, one.to);
+    put(&mut buf, other.at, other.to);
+    show_first(name, &buf, n);
+}
+
+// The file with one number changed, which the name ends in.
+fn value(name: &[u8], at: usize, to: usize) {
+    text(name);
+    number(to);
+    edited(b"", Edit { at, to }, NONE, LENGTH);
+}
+
+// The parent of the last group of a section: below, equal to and above its own number, and at the top.
+fn parents(name: &[u8], at: usize) {
+    value(name, at, 1);
+    value(name, at, 2);
+    value(name, at, 3);
+    value(name, at, 65534);
+    value(name, at, TOP);
+}
+
+// The fields of a claim on both sides of each bound.
+fn fields() {
+    value(b"claim of card group", CARD, 2);
+    value(b"claim of card group", CARD, 3);
+    value(b"claim of shop group", SHOP, 2);
+    value(b"claim of shop group", SHOP, 3);
+    value(b"claim of kind", KIND, 0);
+    value(b"claim of kind", KIND, 1);
+    value(b"claim of kind", KIND, 2);
+    value(b"claim of kind", KIND, 255);
+}
+
+// A fault in a file that ends too early.
+fn cut_off() {
+    edited(b"parent, cut in its record", CARD_LOOP, NONE, 13);
+    edited(b"parent, cut behind it", CARD_LOOP, NONE, 14);
+    edited(b"shop count, cut in it", MANY_SHOPS, NONE, 15);
+    edited(b"shop count, cut behind it", MANY_SHOPS, NONE, 16);
+    edited(b"claim count, cut in it", MANY_CLAIMS, NONE, 29);
+    edited(b"claim count, cut behind it", MANY_CLAIMS, NONE, 30);
+    edited(b"card group, cut in its claim", NO_CARD, NONE, 34);
+    edited(b"card group, cut behind it", NO_CARD, NONE, 35);
+}
+
+// Two faults: the first one met is told.
+fn two_faults() {
+    edited(b"card parent, shop count", CARD_LOOP, MANY_SHOPS, LENGTH);
+    edited(b"shop count, claim count", MANY_SHOPS, MANY_CLAIMS, LENGTH);
+    edited(b"shop parent, claim count", SHOP_LOOP, MANY_CLAIMS, LENGTH);
+    edited(b"claim count, card group", MANY_CLAIMS, NO_CARD, LENGTH);
+    edited(b"card group, kind", NO_CARD, NO_KIND, LENGTH);
+    edited(b"shop group, kind", NO_SHOP, NO_KIND, LENGTH);
+    edited(b"kind, next card group", NO_KIND, NEXT_NO_CARD, LENGTH);
+}
+
+// Bytes after the last claim are told last.
+fn too_long() {
+    edited(b"kind, a byte more", NEXT_NO_KIND, NONE, 41);
+    edited(b"card group, a byte more", NO_CARD, NONE, 41);
+    edited(b"no fault, a byte more", NONE, NONE, 41);
+}
+
+// The records of a file, by the places of its sections.
+fn records(file: &[u8], rows: &[u8]) {
+    group(b"card group 0", group_at(file, 2, 0));
+    group(b"card group 1", group_at(file, 2, 1));
+    group(b"shop group 0", group_at(file, 12, 0));
+    claim(b"claim 0", claim_at(rows, 0));
+    claim(b"claim 1", claim_at(rows, 1));
+}
+
+// A byte past the end reads as 0, however far.
+fn past_the_end() {
+    group(b"group at the end", group_at(b"\x01\x02\x03", 0, 0));
+    group(b"group past the end", group_at(b"\x01", FAR, FAR));
+    claim(b"claim at the end", claim_at(b"\x01\x02\x03\x04", 0));
+    claim(b"claim past the end", claim_at(b"\x01", FAR));
+}
+
+fn main() {
+    examples();
+    day_a();
+    counts();
+    one_byte_more();
+    parents(b"card group 2, parent", CARD_PARENT);
+    parents(b"shop group 2, parent", SHOP_PARENT);
+    fields();
+    cut_off();
+    two_faults();
+    too_long();
+    records(
+        b"\x02\x00\xff\xff\x02\x01\x00\x00\xff\xff\x01\x00\xff\xff\x00\x00\x02\x00\x01\x00\x00\x00\x01\x00\x00\x00\x00\x00",
+        b"\x01\x00\x00\x00\x01\x00\x00\x00\x00\x00",
+    );
+    past_the_end();
+}
