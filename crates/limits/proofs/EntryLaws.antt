@@ -1,0 +1,82 @@
+-- Laws of a file with a selection.
+--   judged-short judged-value judged-is    the selection of an accepted file, one law a case
+--   entered-by                 what it is, by the reading of the file
+--   Entering                   what it is for an accepted file: too short, not 0 and 1, or ready
+--   entering                   one of these
+--   entered-ready              what holds where it is not turned away
+use mathlib.Core.Path.{_≡_, refl, sym, ap, _∙_, subst}
+use mathlib.Core.List.{List}
+use mathlib.Core.Bool.{true, false}
+use mathlib.Core.Logic.{_⊎_, inl, inr}
+use Prim.Native.Nat.{ℕ, _≤_, _<_}
+use native.Mathlib.Decide.{decLt}
+use native.Mathlib.Omega.{arith}
+use lib.ListN.{length}
+use borrow.Author.Tests.{lt-ltb, le-ltb}
+use Rattle.theory.proofs.TestLaws.{either}
+use Rattle.claimfile.specs.File.{reading}
+use Rattle.claimfile.specs.declared.Layout.{Layout}
+use Rattle.claimfile.specs.declared.Reading.{Reading}
+use Rattle.claimfile.specs.declared.Reading.the-variants.{Accepted, Refused}
+use Rattle.claimfile.proofs.AcceptedLaws.{accepted-sound}
+use Rattle.limits.specs.declared.Fault.{Fault}
+use Rattle.limits.specs.declared.Fault.the-variants.{File, Short, Value}
+use Rattle.limits.specs.declared.Entry.{Entry}
+use Rattle.limits.specs.declared.Entry.the-variants.{Entered, Turned}
+use Rattle.limits.specs.Answers.{bits, enteredBy, entered, Ready}
+use Rattle.limits.proofs.SelectionLaws.{are-bits}
+
+module _ (sel : List ℕ) (l : Layout) where
+  pub judged-short : length sel < l .rows → Turned Short ≡ enteredBy sel (Accepted l)
+  judged-short h = rw (lt-ltb _ _ h)
+
+  module _ (h : l .rows ≤ length sel) where
+    pub judged-value : bits (l .rows) sel ≡ false → Turned Value ≡ enteredBy sel (Accepted l)
+    judged-value b = rw (le-ltb _ _ h, b)
+
+    pub judged-is : bits (l .rows) sel ≡ true → Entered l ≡ enteredBy sel (Accepted l)
+    judged-is b = rw (le-ltb _ _ h, b)
+
+pub entered-by : (s sel : List ℕ) (x : Reading) → reading s ≡ x → entered s sel ≡ enteredBy sel x
+unfolding entered
+entered-by s sel x e = ap (enteredBy sel) e
+
+-- an accepted file with a selection is turned away with 8 or 9, or ready
+abbrev pub Entering : List ℕ → List ℕ → Layout → Type 0
+Entering s sel l =
+    ((why : Fault) × (entered s sel ≡ Turned why)) ⊎ ((entered s sel ≡ Entered l) × Ready s sel l)
+
+pub entering : (s sel : List ℕ) (l : Layout) → reading s ≡ Accepted l → Entering s sel l
+entering s sel l e =
+    elim (decLt (length sel) (l .rows)) [
+      | yes h ↦ inl (Short, by ∙ sym (judged-short sel l h))
+      | no h ↦
+          elim (either (bits (l .rows) sel)) [
+            | inl b ↦
+                inr (
+                  by ∙ sym (judged-is sel l (omega arith) b),
+                  record { sound = accepted-sound s l e; long = omega arith; bits = are-bits (l .rows) sel b },
+                )
+            | inr b ↦ inl (Value, by ∙ sym (judged-value sel l (omega arith) b))
+          ]
+    ]
+  where
+    by : entered s sel ≡ enteredBy sel (Accepted l)
+    by = entered-by s sel (Accepted l) e
+
+one-entry : (x : Entry) (k l : Layout) → x ≡ Entered k → x ≡ Entered l → k ≡ l
+one-entry x k l p q = cc
+
+not-entered : (x : Entry) (why : Fault) (l : Layout) → x ≡ Turned why → x ≡ Entered l → ⊥
+not-entered x why l p q = let z : _≡_ {A = ℕ} 0 1 = cc in omega arith
+
+pub entered-ready : (s sel : List ℕ) (l : Layout) → entered s sel ≡ Entered l → Ready s sel l
+entered-ready s sel l e = go (reading s) refl
+  where
+    go : (x : Reading) → reading s ≡ x → Ready s sel l
+    go (Refused why) h = absurd (not-entered (entered s sel) (File why) l (entered-by s sel (Refused why) h) e)
+    go (Accepted k) h =
+        elim (entering s sel k h) [
+          | inl q ↦ absurd (not-entered (entered s sel) (q .0) l (q .1) e)
+          | inr q ↦ subst (Ready s sel) (one-entry (entered s sel) k l (q .0) e) (q .1)
+        ]

@@ -1,0 +1,189 @@
+// Fits and rank, and one more, a line a case: a name for the case, then the answer.
+mod build;
+mod tell;
+
+use build::deep;
+use build::space;
+use tell::more;
+use tell::number;
+use tell::ranked;
+use tell::text;
+ghost use Prim.Native.Nat.{_≤_};
+
+const CARD: usize = 0;
+
+const SHOP: usize = 1;
+// The largest number of its type.
+const FAR: usize = 18446744073709551615;
+
+// Day A: rows c0/s0 e, c0/s1 o, c1/s0 o, every limit 1.
+fn day_a(name: &[u8], selection: &[u8], side: usize) {
+    ranked(
+        name,
+        b"\x02\x00\xff\xff\x01\x00\xff\xff\x01\x00\x02\x00\xff\xff\x01\x00\xff\xff\x01\x00\x03\x00\x00\x00\x00\x00\x01\x00\x00\x01\x00\x00\x01\x00\x00\x00\x00",
+        selection,
+        side,
+    );
+}
+
+fn more_a(name: &[u8], selection: &[u8], row: usize) {
+    more(
+        name,
+        b"\x02\x00\xff\xff\x01\x00\xff\xff\x01\x00\x02\x00\xff\xff\x01\x00\xff\xff\x01\x00\x03\x00\x00\x00\x00\x00\x01\x00\x00\x01\x00\x00\x01\x00\x00\x00\x00",
+        selection,
+        row,
+    );
+}
+
+// Days G and H of document 01.
+fn days_g_and_h() {
+    day_a(b"day G, rows 0 and 1", b"\x01\x01\x00", CARD);
+    day_a(b"day G, all three rows", b"\x01\x01\x01", CARD);
+    day_a(b"day G, no row", b"\x00\x00\x00", CARD);
+    day_a(b"day H, rows 0 and 1, card", b"\x01\x01\x00", CARD);
+    day_a(b"day H, rows 0 and 1, shop", b"\x01\x01\x00", SHOP);
+    day_a(b"day A, all three rows, shop", b"\x01\x01\x01", SHOP);
+    day_a(b"day A, rows 1 and 2, card", b"\x00\x01\x01", CARD);
+    day_a(b"day A, rows 1 and 2, shop", b"\x00\x01\x01", SHOP);
+}
+
+// Selections that are shorter than needed, just long enough, and longer; bytes past the last row are not read.
+fn lengths() {
+    day_a(b"no byte", b"", CARD);
+    day_a(b"one byte short", b"\x01\x00", CARD);
+    day_a(b"just long enough", b"\x01\x00\x00", CARD);
+    day_a(b"longer", b"\x01\x00\x00\x00", CARD);
+    day_a(
+        b"longer, bytes over 1 past the last row",
+        b"\x01\x00\x00\x02\xff",
+        CARD,
+    );
+    more_a(b"one more, one byte short", b"\x01\x00", 0);
+    more_a(
+        b"one more, bytes over 1 past the last row",
+        b"\x00\x01\x00\x02\xff",
+        2,
+    );
+}
+
+// Number 9, and 8 before it.
+fn values() {
+    day_a(b"byte over 1", b"\x01\x02\x00", CARD);
+    day_a(b"byte 255 in the last row", b"\x01\x00\xff", CARD);
+    day_a(b"side 2", b"\x00\x00\x00", 2);
+    day_a(b"side far over 1", b"\x00\x00\x00", FAR);
+    day_a(b"byte over 1 and side 2", b"\x00\x03\x00", 2);
+    day_a(b"too short, byte over 1, side 2", b"\x02\x02", 2);
+    more_a(b"last row", b"\x00\x00\x00", 2);
+    more_a(b"row past the last", b"\x00\x00\x00", 3);
+    more_a(b"row far past the last", b"\x00\x00\x00", FAR);
+    more_a(b"one more, byte over 1", b"\x00\x02\x00", 0);
+    more_a(b"one more, too short, row past the last", b"\x02\x00", 3);
+}
+
+fn one_more_on_day_a() {
+    more_a(b"row 0 to none", b"\x00\x00\x00", 0);
+    more_a(b"row 2 to row 1", b"\x00\x01\x00", 2);
+    more_a(b"row 0 to row 1, card", b"\x00\x01\x00", 0);
+    more_a(b"row 0 to row 2, shop", b"\x00\x00\x01", 0);
+    more_a(b"row 1 to itself", b"\x00\x01\x00", 1);
+    more_a(b"row 2 to rows 1 and 2", b"\x00\x01\x01", 2);
+    more_a(b"row 1 to rows 0 and 1", b"\x01\x01\x00", 1);
+}
+
+// A fault of the file is told before the selection, the side and the row are judged.
+fn faulty(name: &[u8], file: &[u8]) {
+    ranked(name, file, b"\x02", 2);
+    more(name, file, b"\x02", FAR);
+}
+
+fn faulty_files() {
+    faulty(b"example 1", b"\x00");
+    faulty(b"example 2", b"\x01\x01");
+    faulty(b"example 3", b"\x01\x00\x00\x00\x05\x00");
+    faulty(b"example 4", b"\x00\x00\x00\x00\x01\x02");
+    faulty(
+        b"example 5",
+        b"\x00\x00\x00\x00\x01\x00\x00\x00\x00\x00\x00",
+    );
+    faulty(
+        b"example 6",
+        b"\x01\x00\xff\xff\x01\x00\x01\x00\xff\xff\x01\x00\x01\x00\x00\x00\x00\x00\x02",
+    );
+    faulty(b"example 7", b"\x00\x00\x00\x00\x00\x00\x00");
+}
+
+// Day E has no group and no row.
+fn day_e() {
+    ranked(b"day E, card", b"\x00\x00\x00\x00\x00\x00", b"", CARD);
+    ranked(b"day E, shop", b"\x00\x00\x00\x00\x00\x00", b"\x05", SHOP);
+    more(b"day E, row 0", b"\x00\x00\x00\x00\x00\x00", b"", 0);
+}
+
+// Day B: shop s0 limit 2 over s1 limit 5 and s2 limit 1; rows c0/s2 o, c1/s2 e, c2/s1 o.
+fn day_b(name: &[u8], selection: &[u8], side: usize) {
+    ranked(
+        name,
+        b"\x03\x00\xff\xff\x01\x00\xff\xff\x01\x00\xff\xff\x01\x00\x03\x00\xff\xff\x02\x00\x00\x00\x05\x00\x00\x00\x01\x00\x03\x00\x00\x00\x02\x00\x00\x01\x00\x02\x00\x01\x02\x00\x01\x00\x00",
+        selection,
+        side,
+    );
+}
+
+fn day_b_selections() {
+    day_b(b"day B, all rows, card", b"\x01\x01\x01", CARD);
+    day_b(b"day B, all rows, shop", b"\x01\x01\x01", SHOP);
+    day_b(b"day B, rows 0 and 1, shop", b"\x01\x01\x00", SHOP);
+    day_b(b"day B, rows 1 and 2, shop", b"\x00\x01\x01", SHOP);
+}
+
+// The first `n` bytes of a buffer.
+fn show(buf: &[u8], n: usize, selection: &[u8], side: usize) {
+    if n <= buf.len() {
+        ranked(b"", &buf[..n], selection, side);
+    }
+}
+
+// Six rows at the end of a chain: the limit of one group above them is what counts.
+fn chain_case(count: usize, tight: usize, limit: usize)
+    requires { ⌜ (1 ≤ count) × (count ≤ 256) × (tight ≤ 256) ⌝ }
+{
+    let mut buf = space();
+    let n = deep(&mut buf, count, tight, limit);
+    text(b"chain of");
+    number(count);
+    text(b", group");
+    number(tight);
+    text(b" with limit");
+    number(limit);
+    show(&buf, n, b"\x01\x01\x01\x01\x01\x01", CARD);
+}
+
+fn chains() {
+    chain_case(1, 0, 3);
+    chain_case(2, 0, 3);
+    chain_case(256, 0, 3);
+    chain_case(256, 128, 0);
+    chain_case(256, 255, 5);
+    chain_case(256, 0, 6);
+    chain_case(256, 0, 65535);
+}
+
+fn chain_shop() {
+    let mut buf = space();
+    let n = deep(&mut buf, 256, 0, 1);
+    text(b"chain of 256, shop");
+    show(&buf, n, b"\x01\x01\x01\x00\x01\x01", SHOP);
+}
+
+fn main() {
+    days_g_and_h();
+    lengths();
+    values();
+    one_more_on_day_a();
+    faulty_files();
+    day_e();
+    day_b_selections();
+    chains();
+    chain_shop();
+}
