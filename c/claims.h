@@ -1,0 +1,105 @@
+/*
+ * A day of bread claims: the calls for the till's own program.
+ *
+ * Link with libtill.a, for x86-64 Linux. The calls keep no state. Only claims_settle changes memory that is lent to it, and only where
+ * it answers no refusal. Calls may be made from several threads at once, where what they are lent to change is not shared.
+ *
+ * A pointer must not be null, even where the length beside it is 0, and as many elements must stand there as the length says. Buffers
+ * that are lent to one call do not overlap.
+ */
+#ifndef CLAIMS_H
+#define CLAIMS_H
+
+#include <stddef.h>
+#include <stdint.h>
+
+#ifdef __cplusplus
+extern "C" {
+#endif
+
+/* The two sides of a day. */
+#define CLAIMS_CARD 0u
+#define CLAIMS_SHOP 1u
+
+/*
+ * Why a call is turned away: the numbers of document 01. The file is judged first (1 to 7), then the length of the selection or of the
+ * lent buffers (8), then the values (9).
+ */
+#define CLAIMS_CUT_OFF 1u       /* the file ends before or inside a count or record that is due */
+#define CLAIMS_GROUP_COUNT 2u   /* a group count is over 256 */
+#define CLAIMS_PARENT 3u        /* a parent is neither smaller than the group's own number nor 65535 */
+#define CLAIMS_CLAIM_COUNT 4u   /* the claim count is over 512 */
+#define CLAIMS_NO_SUCH_GROUP 5u /* a claim names a group that its section lacks */
+#define CLAIMS_KIND 6u          /* a kind is neither 0 nor 1 */
+#define CLAIMS_TRAILING 7u      /* bytes follow the last claim */
+#define CLAIMS_SHORT 8u         /* a lent buffer or selection is shorter than needed */
+#define CLAIMS_VALUE 9u         /* a selection byte is over 1, the side is over 1, or the row is not below the number of claims */
+
+/* What claims_fits_and_rank answers. */
+struct claims_fits_and_rank_answer {
+    uint32_t refusal; /* 0, or the number of the reason why the call is turned away; the other fields are 0 then */
+    uint32_t fits;    /* 1 where no group of the side counts more of the selected rows than its limit, else 0 */
+    uint32_t rank;    /* how many of the selected rows fit the side together, at most */
+};
+
+/* What claims_one_more answers. */
+struct claims_one_more_answer {
+    uint32_t refusal; /* 0, or the number of the reason why the call is turned away; the other field is 0 then */
+    uint32_t yes;     /* 1 where the selection with the row added fits both sides, else 0 */
+};
+
+/* What claims_settle answers. */
+struct claims_settle_answer {
+    uint32_t refusal; /* 0, or the number of the reason why the call is turned away; the other fields are 0 then */
+    uint64_t earned;  /* how many of the kept rows are earned */
+    uint64_t kept;    /* how many rows are kept */
+    uint64_t total;   /* the sheet's total, which is the weight of the kept rows */
+};
+
+/*
+ * Whether a selection of a file's rows fits a side, and its rank there.
+ *
+ * file, file_length              the claim file
+ * selection, selection_length    one byte a row: 1 where the row is selected, else 0. Bytes past the last row are not read
+ * side                           CLAIMS_CARD or CLAIMS_SHOP
+ */
+struct claims_fits_and_rank_answer claims_fits_and_rank(
+    const uint8_t *file, size_t file_length,
+    const uint8_t *selection, size_t selection_length,
+    uint32_t side);
+
+/*
+ * Whether a selection of a file's rows with one row added fits both sides. A row that is selected already adds nothing.
+ *
+ * file, file_length              the claim file
+ * selection, selection_length    one byte a row, as above
+ * row                            the row that is added, counted from 0
+ */
+struct claims_one_more_answer claims_one_more(
+    const uint8_t *file, size_t file_length,
+    const uint8_t *selection, size_t selection_length,
+    uint32_t row);
+
+/*
+ * Settles a file: which claims are kept, with the sheet of marks that shows that no choice is better. With N claims and G groups, card
+ * and shop groups together, the needed lengths are as said below. Longer buffers are accepted; what lies past the needed length is
+ * neither read nor changed. What the buffers hold before does not matter. Where a refusal is answered, no buffer is changed.
+ *
+ * file, file_length         the claim file
+ * choice, choice_length     N bytes at least: afterwards 1 for each kept row and 0 for each other row
+ * sheet, sheet_length       G + N numbers at least: afterwards the marks, of the card groups, the shop groups and the claims
+ * scratch, scratch_length   8 * (G + N) numbers at least: afterwards zero
+ *
+ * A length counts elements: bytes of the choice, numbers of 32 bits of the sheet and of the scratch.
+ */
+struct claims_settle_answer claims_settle(
+    const uint8_t *file, size_t file_length,
+    uint8_t *choice, size_t choice_length,
+    uint32_t *sheet, size_t sheet_length,
+    uint32_t *scratch, size_t scratch_length);
+
+#ifdef __cplusplus
+}
+#endif
+
+#endif

@@ -1,0 +1,3 @@
+-- Laws of the text and of appending.
+pub mod TextLaws
+pub mod BufferLaws

@@ -1,0 +1,3 @@
+-- Laws of the exported calls.
+pub mod NumberLaws
+pub mod SettleNumberLaws

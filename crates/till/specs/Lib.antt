@@ -1,0 +1,3 @@
+-- What the exported calls answer.
+pub mod Numbers
+pub mod SettleNumbers

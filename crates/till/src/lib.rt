@@ -1,0 +1,106 @@
+// The calls for the till's own program, which is in C: c/claims.h declares them.
+//
+// A slice is passed as a pointer and a length. Each call answers a struct of numbers by value. Only settle changes lent memory.
+ghost use Rattle.till.specs.Numbers.{FitsAndRankIs, OneMoreIs};
+ghost use Rattle.till.specs.SettleNumbers.{SettleIs};
+use closing::Settled;
+use closing::settle;
+use limits::OneMore;
+use limits::Ranked;
+use limits::fits_and_rank;
+use limits::number;
+use limits::one_more;
+
+// The refusal's number and zeros where the call is turned away; else 0, 1 where the selection fits and 0 where not, and its rank.
+#[repr(C)]
+pub struct FitsAndRank {
+    pub refusal: u32,
+    pub fits: u32,
+    pub rank: u32,
+}
+
+// The refusal's number and 0 where the call is turned away; else 0, and 1 where the selection with the row fits and 0 where not.
+#[repr(C)]
+pub struct OneMoreAnswer {
+    pub refusal: u32,
+    pub yes: u32,
+}
+
+// The refusal's number and zeros where the call is turned away; else 0, how many kept rows are earned, how many rows are kept, and the
+// sheet's total.
+#[repr(C)]
+pub struct SettleAnswer {
+    pub refusal: u32,
+    pub earned: u64,
+    pub kept: u64,
+    pub total: u64,
+}
+
+// Whether a selection fits a side (0 card, 1 shop), and its rank there.
+#[no_mangle]
+pub extern "C" fn claims_fits_and_rank(file: &[u8], selection: &[u8], side: u32) -> FitsAndRank
+    ensures { λ r. ⌜ FitsAndRankIs (now (file .entry)) (now (selection .entry)) side r ⌝ }
+{
+    let answer = fits_and_rank(file, selection, side as usize);
+    match answer {
+        Ranked::Told { fits, rank } => FitsAndRank {
+            refusal: 0,
+            fits: fits as u32,
+            rank: rank as u32,
+        },
+        Ranked::Refused(why) => FitsAndRank {
+            refusal: number(why),
+            fits: 0,
+            rank: 0,
+        },
+    }
+}
+
+// Whether a selection with the row added fits both sides.
+#[no_mangle]
+pub extern "C" fn claims_one_more(file: &[u8], selection: &[u8], row: u32) -> OneMoreAnswer
+    ensures { λ r. ⌜ OneMoreIs (now (file .entry)) (now (selection .entry)) row r ⌝ }
+{
+    let answer = one_more(file, selection, row as usize);
+    match answer {
+        OneMore::Yes => OneMoreAnswer { refusal: 0, yes: 1 },
+        OneMore::No => OneMoreAnswer { refusal: 0, yes: 0 },
+        OneMore::Refused(why) => OneMoreAnswer {
+            refusal: number(why),
+            yes: 0,
+        },
+    }
+}
+
+// Settles a file: leaves the best choice and the marks, and clears the scratch.
+#[no_mangle]
+pub extern "C" fn claims_settle(
+    file: &[u8],
+    choice: &mut [u8],
+    sheet: &mut [u32],
+    scratch: &mut [u32],
+) -> SettleAnswer
+    ensures { λ r. ⌜ SettleIs (now (file .entry)) (now (choice .entry)) (now (sheet .entry)) (now (scratch .entry)) (now (choice .exit)) (now (sheet .exit)) (now (scratch .exit)) r ⌝ }
+{
+    let settled = settle(file, choice, sheet, scratch);
+    match settled {
+        Settled::Closed(totals) => SettleAnswer {
+            refusal: 0,
+            earned: totals.earned as u64,
+            kept: totals.kept as u64,
+            total: totals.total as u64,
+        },
+        Settled::File(why) => SettleAnswer {
+            refusal: claimfile::number(why),
+            earned: 0,
+            kept: 0,
+            total: 0,
+        },
+        Settled::Short => SettleAnswer {
+            refusal: 8,
+            earned: 0,
+            kept: 0,
+            total: 0,
+        },
+    }
+}
