@@ -21,7 +21,7 @@ typedef struct {
 static struct {
     uint32_t groups[2 * MOST_GROUPS + PAST], rows[3 * MOST_ROWS + PAST];
     uint8_t choice[MOST_ROWS + PAST];
-    uint32_t sheet[MOST_GROUPS + MOST_ROWS + PAST], scratch[6 * MOST_GROUPS + 5 * MOST_ROWS + 6 + PAST];
+    uint32_t sheet[MOST_GROUPS + MOST_ROWS + PAST], scratch[6 * MOST_GROUPS + 5 * MOST_ROWS + 7 + PAST];
 } lent;
 
 /* One row of a kind outweighs all rows of lower kinds. */
@@ -33,7 +33,7 @@ static uint32_t weight(const Network *d, unsigned kind) {
 
 static uint32_t top(const Network *d) { return weight(d, d->kinds - 1); }
 
-static size_t cells(const Network *d) { return 6 * d->groups + 5 * d->rows + 6; }
+static size_t cells(const Network *d) { return 6 * d->groups + 5 * d->rows + 7; }
 
 /* What a buffer held before, so that every cell can be told to have stayed. */
 static uint32_t filler(size_t i) { return (uint32_t)(i * 2654435761u + 12345u); }

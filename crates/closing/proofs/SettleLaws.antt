@@ -55,7 +55,11 @@ module _ (s : List ℕ) (l : Layout) (ch sheet scr : List ℕ) (lent : Lent s l 
   room t long =
       let sound = accepted-sound s l (lent .accepted) in
       record {
-        few = record { groups = omega (arith, sound .cards-most, sound .shops-most); rows = sound .rows-most };
+        few = record {
+          groups = omega (arith, sound .cards-most, sound .shops-most);
+          rows = sound .rows-most;
+          fresh = omega arith;
+        };
         size = omega (arith, long, lent .cells, rows-groups s l (lent .accepted) some);
       }
 
@@ -68,6 +72,7 @@ module _ (s : List ℕ) (l : Layout) (ch sheet scr : List ℕ) (lent : Lent s l 
       room = room t (W .long);
       formed = tabled-formed s l (shapeOf l) t (shape-shaped l) (W .tabled) (lent .accepted);
       all = refl;
+      fresh = refl;
       high = omega (arith, accepted-sound s l (lent .accepted) .rows-most);
       low = tabled-limit s l (shapeOf l) t (shape-shaped l) (W .tabled) bytes;
       light = tabled-weight s l (shapeOf l) t (shape-shaped l) (W .tabled) (lent .accepted);

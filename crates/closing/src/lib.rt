@@ -78,6 +78,7 @@ fn shape_of(layout: Layout) -> Shape
         rows,
         free: 0,
         toll: rows + 1,
+        fresh: 0,
     }
 }
 

@@ -1,5 +1,5 @@
 -- Laws of the answers.
---   fits-told                  whether a selection fits a side, by the numbers of the greedy method
+--   with-unfit with-in with-asked      whether a selection with one row more fits a side
 --   ranked-value ranked-told more-value more-unfit-card more-unfit-shop more-fits      the answers of an accepted file
 --   ranked-by more-by          the answers by the entry
 --   answered added             an answer that is as defined says what it means
@@ -7,8 +7,8 @@
 --   told-most                  a rank is at most 512
 use mathlib.Core.Path.{_≡_, refl, sym, ap, ap₂, _∙_, subst}
 use mathlib.Core.List.{List}
-use mathlib.Core.Bool.{Bool, true, false, not, false≢true}
-use mathlib.Core.Logic.{_⊎_, inl, inr}
+use mathlib.Core.Bool.{Bool, true, false, not, false≢true, true≢false}
+use mathlib.Core.Logic.{inl, inr, _≢_}
 use Prim.Native.Nat.{ℕ, _≤_, _<_}
 use native.Mathlib.Decide.{decLt}
 use native.Mathlib.Omega.{arith}
@@ -18,11 +18,12 @@ use Rattle.theory.specs.Incidence.{Selection, fits, plus}
 use Rattle.theory.specs.Matroid.{Rank, row, rank}
 use Rattle.theory.specs.Network.{onSide, FitsSide, Independent, FitsBoth, fitsBoth}
 use Rattle.theory.proofs.SumLaws.{sum-bound}
-use Rattle.theory.proofs.IncidenceLaws.{plus-bits, fits-cong}
+use Rattle.theory.proofs.IncidenceLaws.{fits-le, fits-cong, plus-in, plus-within, fits-plus, full-plus}
+use Rattle.theory.proofs.ForestLaws.{chain-small}
 use Rattle.theory.proofs.TestLaws.{either, fits-true, true-fits, both-true, true-both}
-use Rattle.theory.proofs.RankLaws.{rank-unique, rank-full, full-rank, fits-rank}
+use Rattle.theory.proofs.RankLaws.{rank-unique, fits-rank}
 use Rattle.claimfile.specs.File.{reading}
-use Rattle.claimfile.specs.Day.{groupsOf, limitOf, networkOf}
+use Rattle.claimfile.specs.Day.{claims, groupsOf, limitOf, networkOf}
 use Rattle.claimfile.specs.declared.Layout.{Layout}
 use Rattle.claimfile.specs.declared.Reading.{Reading}
 use Rattle.claimfile.specs.declared.Reading.the-variants as reading-is
@@ -35,91 +36,101 @@ use Rattle.limits.specs.declared.Ranked.{Ranked}
 use Rattle.limits.specs.declared.Ranked.the-variants as ranked-is
 use Rattle.limits.specs.declared.OneMore.{OneMore}
 use Rattle.limits.specs.declared.OneMore.the-variants as one-more-is
+use Rattle.limits.specs.declared.Groups.{Groups}
 use Rattle.limits.specs.declared.Found.{Found}
 use Rattle.limits.specs.Answers.{entered, Ready, fitsOf, rankedBy, ranked, oneMoreBy, oneMore, Told, Answered, Added}
-use Rattle.limits.specs.Side.{Taken}
-use Rattle.limits.proofs.SelectionLaws.{plus-other}
+use Rattle.limits.specs.Side.{sideOf, parentIn, limitIn, hangs, inSection, Asked, FitsIn, Placed}
+use Rattle.limits.proofs.ChainLaws.{section-down}
+use Rattle.limits.proofs.SideLaws.{section-fits, fits-section, section-rank}
 use Rattle.limits.proofs.EntryLaws.{entered-by, entering}
 
 --------------------------------------------------------------------------------
--- What the numbers of the greedy method tell
+-- What is told when the rows have risen
 
 same-test : (a b : Bool) → (a ≡ true → b ≡ true) → (b ≡ true → a ≡ true) → a ≡ b
 same-test true b f g = sym (f refl)
 same-test false true f g = g refl
 same-test false false f g = refl
 
--- rank depends on the rows alone
-rank-agree :
-    (N : ℕ) (Ind : (ℕ → ℕ) → Type 0) (X Y : ℕ → ℕ) (n : ℕ) → ((c : ℕ) → c < N → X c ≡ Y c) → Rank N Ind X n → Rank N Ind Y n
-rank-agree N Ind X Y n h k =
-    record {
-      base = k .base;
-      ind = k .ind;
-      within = λ c l. omega (arith, k .within c l, h c l);
-      is = k .is;
-      most = λ J j w. k .most J j (λ c l. omega (arith, w c l, h c l));
-    }
-
-module _ (s sel : List ℕ) (l : Layout) (ready : Ready s sel l) (side : ℕ) (f : Found) where
-  -- b tells whether all rows were taken
-  pub fits-told :
-      (extra : ℕ) → Taken s sel l extra side f → (b : Bool) → (b ≡ true → f .taken ≡ f .selected) →
-      (b ≡ false → ¬ (f .taken ≡ f .selected)) → b ≡ fitsOf s l side (plus (row sel) extra)
-  fits-told extra t b all some =
+module _ (s sel : List ℕ) (l : Layout) (ready : Ready s sel l) (side : ℕ) where
+  -- b tells whether a list of rows fits the section of the side
+  told :
+      (X : ℕ → ℕ) (b : Bool) → (b ≡ true → FitsIn s (sideOf l side) (l .rows) (hangs (claims s l) side) X) →
+      (b ≡ false → ¬ FitsIn s (sideOf l side) (l .rows) (hangs (claims s l) side) X) → b ≡ fitsOf s l side X
+  told X b fit unfit =
       same-test b (fitsOf s l side X)
       (λ e.
       true-fits (l .rows) (groupsOf l) (onSide (networkOf s l) side) (limitOf s l) X
-      (rank-full (l .rows) (FitsSide (networkOf s l) (limitOf s l) side) X (f .taken) (t .largest)
-      (fits-cong (l .rows) (onSide (networkOf s l) side) (groupsOf l) (limitOf s l))
-      (all e ∙ t .selected)))
+      (section-fits s l (ready .sound) side X (fit e)))
       (λ e.
       elim (either b) [
         | inl h ↦ h
         | inr h ↦
             absurd
-            (some h
-            (full-rank (l .rows) (FitsSide (networkOf s l) (limitOf s l) side) X (f .taken) (t .largest)
-            (plus-bits (row sel) extra (l .rows) (ready .bits))
-            (fits-true (l .rows) (groupsOf l) (onSide (networkOf s l) side) (limitOf s l) X e)
-            ∙ sym (t .selected)))
+            (unfit h
+            (fits-section s l (ready .sound) side X
+            (fits-true (l .rows) (groupsOf l) (onSide (networkOf s l) side) (limitOf s l) X e)))
       ])
-    where
-      X : ℕ → ℕ
-      X = plus (row sel) extra
 
-  module _ (t : Taken s sel l (l .rows) side f) where
-    -- no row is added
-    none : (c : ℕ) → c < l .rows → plus (row sel) (l .rows) c ≡ row sel c
-    none c h = plus-other sel (l .rows) c (λ e. omega arith)
+  module _ (next : List ℕ) (f : Found) (t : Placed s sel l side next f) where
+    fits-told : f .fits ≡ fitsOf s l side (row sel)
+    fits-told = told (row sel) (f .fits) (t .lifted .fits) (t .lifted .unfit)
 
-    fits-none : fitsOf s l side (plus (row sel) (l .rows)) ≡ fitsOf s l side (row sel)
-    fits-none =
-        same-test (fitsOf s l side (plus (row sel) (l .rows))) (fitsOf s l side (row sel))
-        (λ e. carry (plus (row sel) (l .rows)) (row sel) none e)
-        (λ e. carry (row sel) (plus (row sel) (l .rows)) (λ c h. sym (none c h)) e)
-      where
-        carry :
-            (X Y : ℕ → ℕ) → ((c : ℕ) → c < l .rows → X c ≡ Y c) →
-            fitsOf s l side X ≡ true → fitsOf s l side Y ≡ true
-        carry X Y h e =
-            true-fits (l .rows) (groupsOf l) (onSide (networkOf s l) side) (limitOf s l) Y
-            (fits-cong (l .rows) (onSide (networkOf s l) side) (groupsOf l) (limitOf s l) X Y h
-            (fits-true (l .rows) (groupsOf l) (onSide (networkOf s l) side) (limitOf s l) X e))
-
-    rank-none : f .taken ≡ rank (l .rows) (fitsOf s l side) (row sel)
-    rank-none =
-        rank-unique (l .rows) (Independent (networkOf s l) (limitOf s l) side) (row sel) (f .taken)
+    rank-told : f .rank ≡ rank (l .rows) (fitsOf s l side) (row sel)
+    rank-told =
+        rank-unique (l .rows) (Independent (networkOf s l) (limitOf s l) side) (row sel) (f .rank)
         (rank (l .rows) (fitsOf s l side) (row sel))
-        (rank-agree (l .rows) (Independent (networkOf s l) (limitOf s l) side) (plus (row sel) (l .rows)) (row sel) (f .taken)
-        none (t .largest))
+        (section-rank s l (ready .sound) side (row sel) (f .rank) (t .lifted .rank))
         (fits-rank (l .rows) (groupsOf l) (onSide (networkOf s l) side) (limitOf s l) (row sel))
 
     pub ranked-told :
-        (b : Bool) (n : ℕ) → side ≤ 1 → n ≡ f .taken → (b ≡ true → f .taken ≡ f .selected) →
-        (b ≡ false → ¬ (f .taken ≡ f .selected)) → ranked-is.Told b n ≡ rankedBy s sel side (Entered l)
-    ranked-told b n h e all some =
-        rw (le-ltb _ _ h) (ap₂ ranked-is.Told (fits-told (l .rows) t b all some ∙ fits-none) (e ∙ rank-none))
+        (b : Bool) (n : ℕ) → side ≤ 1 → b ≡ f .fits → n ≡ f .rank → ranked-is.Told b n ≡ rankedBy s sel side (Entered l)
+    ranked-told b n h e i = rw (le-ltb _ _ h) (ap₂ ranked-is.Told (e ∙ fits-told) (i ∙ rank-told))
+
+    -- the selection with row x added
+    module _ (x : ℕ) (inside : x < l .rows) where
+      pub with-unfit : f .fits ≡ false → false ≡ fitsOf s l side (plus (row sel) x)
+      with-unfit e =
+          told (plus (row sel) x) false
+          (λ q. absurd (false≢true q))
+          (λ q fit.
+          t .lifted .unfit e
+          (fits-le (l .rows) (inSection s (sideOf l side) side (claims s l)) (sideOf l side .count) (limitIn s (sideOf l side))
+          (row sel) (plus (row sel) x) (plus-within (row sel) x (l .rows)) fit))
+
+      module _ (fit : f .fits ≡ true) where
+        pub with-in : row sel x ≡ 1 → true ≡ fitsOf s l side (plus (row sel) x)
+        with-in e =
+            told (plus (row sel) x) true
+            (λ q.
+            fits-cong (l .rows) (inSection s (sideOf l side) side (claims s l)) (sideOf l side .count) (limitIn s (sideOf l side))
+            (row sel) (plus (row sel) x) (λ c h. sym (plus-in (row sel) x e c)) (t .lifted .fits fit))
+            (λ q. absurd (true≢false q))
+
+        -- r tells whether each group that the row counts in has a place left
+        pub with-asked :
+            row sel x ≢ 1 → (p : Groups) (g : ℕ) → p ≡ sideOf l side → g ≡ hangs (claims s l) side x → (r : Bool) →
+            Asked s p next g r → r ≡ fitsOf s l side (plus (row sel) x)
+        with-asked n p g e f r given =
+            told (plus (row sel) x) r
+            (λ q.
+            fits-plus (row sel) x (l .rows) (sideOf l side .count) (inSection s (sideOf l side) side (claims s l))
+            (limitIn s (sideOf l side)) inside out (t .lifted .fits fit)
+            (chain-small (sideOf l side .count) (parentIn s (sideOf l side)) (section-down s (sideOf l side))
+            (hangs (claims s l) side x))
+            (λ v k e. omega (arith, asked .room q v k e, t .lifted .counts fit v k)))
+            (λ q.
+            let full = asked .full q in
+            full-plus (row sel) x (l .rows) (sideOf l side .count) (inSection s (sideOf l side) side (claims s l))
+            (limitIn s (sideOf l side)) inside out (full .0) (full .1) (full .2)
+            (omega (arith, full .3, t .lifted .counts fit (full .0) (full .1))))
+          where
+            out : row sel x ≡ 0
+            out = omega (arith, ready .bits x inside)
+
+            asked : Asked s (sideOf l side) next (hangs (claims s l) side x) r
+            asked =
+                subst (λ u. Asked s (sideOf l side) next u r) f (subst (λ (q : Groups). Asked s q next g r) e given)
 
 ranked-side :
     (s sel : List ℕ) (side : ℕ) (l : Layout) → side ≤ 1 →

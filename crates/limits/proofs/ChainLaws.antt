@@ -1,49 +1,51 @@
 -- Laws of the way up from a group of a section, one law for each branch of the walks.
---   section-down               a section's parents make a forest
+--   parent-lower parent-root       the parent by the number in a group's record
+--   section-rooted section-down    a section's parents make a forest
 --   up-none up-parent up-top   the groups from g up: none from a root, g and those from its parent up, g alone at the top
---   room-none room-up room-top full-here full-up asked-up place-left   whether they all have a place left
---   room-parent counted-none counted-up counted-top                    one row more in each of them
+--   room-none room-up room-top full-here full-up asked-up      whether they all have a place left
 use mathlib.Core.Path.{_≡_, refl, sym, _∙_, ap}
 use mathlib.Core.List.{List}
-use mathlib.Core.Bool.{Bool, true, false}
-use mathlib.Core.Logic.{_⊎_, inl, inr, _≢_}
+use mathlib.Core.Bool.{Bool}
+use mathlib.Core.Logic.{inl, inr, _≢_}
 use Prim.Native.Nat.{ℕ, _+_, _≤_, _<_}
 use native.Mathlib.Nat.{le-refl}
 use native.Mathlib.Decide.{ℕ-discrete, decLt}
 use native.Mathlib.Omega.{arith}
-use lib.ListN.{length, getD, set}
-use lib.Seq.{getD-set-same, getD-set-other}
+use lib.ListN.{getD}
 use borrow.Author.Tests.{lt-ltb, le-ltb}
 use Rattle.theory.specs.Sum.{same}
 use Rattle.theory.specs.Forest.{Down}
-use Rattle.theory.proofs.SumLaws.{same-self, same-eq, same-ne}
+use Rattle.theory.specs.Rise.{Rooted}
+use Rattle.theory.proofs.SumLaws.{same-self, same-ne}
 use Rattle.theory.proofs.ForestLaws.{chain-out, chain-in, chain-above}
+use Rattle.theory.proofs.LandLaws.{rooted-down}
 use Rattle.claimfile.specs.File.{groupOf}
 use Rattle.limits.specs.declared.Groups.{Groups}
-use Rattle.limits.specs.Side.{parentIn, limitIn, upIn, HasRoom, IsFull, Asked, CountedUp}
+use Rattle.limits.specs.Side.{parentBy, parentIn, limitIn, upIn, HasRoom, IsFull, Asked}
 
--- one more at place g
-bumped : (k : List ℕ) (g h : ℕ) → g < length k → getD (set k g (getD k g 0 + 1)) h 0 ≡ getD k h 0 + same g h
-bumped k g h l =
-    elim (ℕ-discrete g h) [
-      | yes e ↦ rw (← e, getD-set-same k g (getD k g 0 + 1) 0 l, same-self)
-      | no e ↦
-          omega (arith, getD-set-other k g h (getD k g 0 + 1) 0 (λ i. e (sym i)), same-ne g h e)
-    ]
+module _ (G u h : ℕ) where
+  pub parent-lower : u < h → u ≡ parentBy G u h
+  parent-lower l = rw (lt-ltb _ _ l)
+
+  pub parent-root : h ≤ u → G ≡ parentBy G u h
+  parent-root l = rw (le-ltb _ _ l)
 
 module _ (s : List ℕ) (p : Groups) where
   parent-is : (h : ℕ) → groupOf s (p .start) h .parent < h → parentIn s p h ≡ groupOf s (p .start) h .parent
-  parent-is h l = rw (lt-ltb _ _ l)
+  parent-is h l = sym (parent-lower (p .count) (groupOf s (p .start) h .parent) h l)
 
   parent-top : (h : ℕ) → h ≤ groupOf s (p .start) h .parent → parentIn s p h ≡ p .count
-  parent-top h l = rw (le-ltb _ _ l)
+  parent-top h l = sym (parent-root (p .count) (groupOf s (p .start) h .parent) h l)
 
-  pub section-down : Down (p .count) (parentIn s p)
-  section-down v l =
+  pub section-rooted : Rooted (p .count) (parentIn s p)
+  section-rooted v l =
       elim (decLt (groupOf s (p .start) v .parent) v) [
         | yes h ↦ inl (omega (arith, parent-is v h))
-        | no h ↦ inr (omega (arith, parent-top v (omega arith)))
+        | no h ↦ inr (parent-top v (omega arith))
       ]
+
+  pub section-down : Down (p .count) (parentIn s p)
+  section-down = rooted-down (p .count) (parentIn s p) section-rooted
 
   pub up-none : (g h : ℕ) → p .count ≤ g → upIn s p g h ≡ 0
   up-none g h l = chain-out (p .count) (parentIn s p) section-down g h l
@@ -76,21 +78,15 @@ module _ (s : List ℕ) (p : Groups) where
           ]
 
 --------------------------------------------------------------------------------
--- Whether they all have a place left, and one row more in each of them
+-- Whether they all have a place left
 
 module _ (s : List ℕ) (p : Groups) (k : List ℕ) (g : ℕ) where
   pub room-none : p .count ≤ g → HasRoom s p k g
   room-none l h i e = absurd (omega (arith, up-none s p g h l))
 
-  pub counted-none : p .count ≤ g → CountedUp s p k k g
-  counted-none l h i = omega (arith, up-none s p g h l)
-
   module _ (inside : g < p .count) where
     pub full-here : limitIn s p g ≤ getD k g 0 → IsFull s p k g
     full-here l = (g, inside, up-self s p g inside, l)
-
-    pub place-left : HasRoom s p k g → getD k g 0 < limitIn s p g
-    place-left room = room g inside (up-self s p g inside)
 
     module _ (u : ℕ) (is : u ≡ groupOf s (p .start) g .parent) where
       pub room-top : getD k g 0 < limitIn s p g → g ≤ u → HasRoom s p k g
@@ -99,9 +95,6 @@ module _ (s : List ℕ) (p : Groups) (k : List ℕ) (g : ℕ) where
             | yes q ↦ rw (← q) place
             | no q ↦ absurd (omega (arith, up-top s p g inside u is l h, same-ne g h q))
           ]
-
-      pub counted-top : p .count ≤ length k → g ≤ u → CountedUp s p k (set k g (getD k g 0 + 1)) g
-      counted-top long l h i = omega (arith, bumped k g h (omega arith), up-top s p g inside u is l h)
 
       module _ (l : u < g) where
         -- g is not above u
@@ -122,16 +115,3 @@ module _ (s : List ℕ) (p : Groups) (k : List ℕ) (g : ℕ) where
 
         pub asked-up : (r : Bool) → getD k g 0 < limitIn s p g → Asked s p k u r → Asked s p k g r
         asked-up r place a = record { room = λ e. room-up place (a .room e); full = λ e. full-up (a .full e) }
-
-        -- the groups above g still have a place left
-        pub room-parent : (x : ℕ) → HasRoom s p k g → HasRoom s p (set k g x) u
-        room-parent x room h i e =
-            let other = apart h e in
-            rw (getD-set-other k g h x 0 (λ q. other (sym q)))
-            (room h i (omega (arith, e, up-parent s p g inside u is l h, same-ne g h other)))
-
-        -- x is the count of group h at the end
-        pub counted-up :
-            p .count ≤ length k → (h x : ℕ) → x ≡ getD (set k g (getD k g 0 + 1)) h 0 + upIn s p u h →
-            x ≡ getD k h 0 + upIn s p g h
-        counted-up long h x c = omega (arith, c, bumped k g h (omega arith), up-parent s p g inside u is l h)

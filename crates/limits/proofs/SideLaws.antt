@@ -3,29 +3,29 @@
 --   firstOf l side         the node of the side's first group
 --   side-hanging           the rows at the groups of the section, as rows at the nodes of the network
 --   side-most              a section has at most 256 groups
---   section-rank           what greedy takes in the section is a largest independent set of the side's matroid
-use mathlib.Core.Path.{_≡_, refl, sym, ap, _∙_}
+--   side-node side-records     rows hang at groups of the section, whose records the file holds
+--   section-fits fits-section section-rank     what fits the section fits the side, and a rank there is a rank on the side
+use mathlib.Core.Path.{_≡_, refl, ap, _∙_}
 use mathlib.Core.List.{List}
-use mathlib.Core.Logic.{_⊎_, inl, inr, _≢_}
-use Prim.Native.Nat.{ℕ, zero, suc, _+_, _≤_, _<_}
+use mathlib.Core.Logic.{inl, inr, _≢_}
+use Prim.Native.Nat.{ℕ, zero, suc, _+_, _*_, _≤_, _<_}
 use native.Mathlib.Nat.{le-refl, zero-add}
 use native.Mathlib.Decide.{decLt}
 use native.Mathlib.Omega.{arith}
+use lib.ListN.{length}
 use borrow.Author.Tests.{lt-ltb, le-ltb}
 use Rattle.theory.specs.Forest.{Down}
-use Rattle.theory.specs.Incidence.{Selection, size}
-use Rattle.theory.specs.Network.{node, onSide, Independent}
+use Rattle.theory.specs.Incidence.{Selection}
+use Rattle.theory.specs.Network.{node, onSide, FitsSide, Independent}
 use Rattle.theory.specs.Matroid.{Rank}
-use Rattle.theory.specs.Greedy.{Greedy}
 use Rattle.theory.proofs.NetworkLaws.{formed-down}
-use Rattle.theory.proofs.GreedyLaws.{taken-rank}
-use Rattle.theory.proofs.EmbedLaws.{Stands, Hanging, part-greedy}
+use Rattle.theory.proofs.EmbedLaws.{Stands, Hanging, part-fits, fits-part, part-rank}
 use Rattle.claimfile.specs.File.{groupOf, claimOf}
 use Rattle.claimfile.specs.Day.{claims, groupsOf, above, parentOf, limitOf, networkOf, Sound}
 use Rattle.claimfile.specs.declared.Layout.{Layout}
 use Rattle.claimfile.proofs.DayLaws.{parent-card, parent-shop, limit-card, limit-shop, card-node, shop-node, sound-formed}
 use Rattle.limits.specs.declared.Groups.{Groups}
-use Rattle.limits.specs.Side.{sideOf, parentIn, limitIn, hangs, inSection}
+use Rattle.limits.specs.Side.{sideOf, parentIn, limitIn, hangs, FitsIn}
 use Rattle.limits.proofs.ChainLaws.{section-down}
 
 pub side-card : (l : Layout) (side : ℕ) → side ≡ 0 → sideOf l side ≡ record { start = l .«card_at»; count = l .cards }
@@ -103,14 +103,38 @@ module _ (s : List ℕ) (l : Layout) (sound : Sound s l) where
       (λ g h. limit-shop s l g)
       (λ c h. inl (sound .row-shops c h, shop-node s l c))
 
-  pub section-rank :
-      (side : ℕ) (X B : ℕ → ℕ) → Selection (l .rows) X →
-      Greedy (l .rows) (sideOf l side .count) (inSection s (sideOf l side) side (claims s l)) (limitIn s (sideOf l side)) X
-      (l .rows) B →
-      Rank (l .rows) (Independent (networkOf s l) (limitOf s l) side) X (size (l .rows) B)
-  unfolding onSide
-  section-rank side X B bits g =
-      taken-rank (networkOf s l) (sound-formed s l sound) (limitOf s l) side X bits B
-      (part-greedy (l .rows) (sideOf l side .count) (parentIn s (sideOf l side)) (limitIn s (sideOf l side))
-      (hangs (claims s l) side) (groupsOf l) (parentOf s l) (limitOf s l) (node (networkOf s l) side) (firstOf l side)
-      (side-hanging side) X (l .rows) B (le-refl (l .rows)) g)
+  pub side-node : (side c : ℕ) → c < l .rows → hangs (claims s l) side c < sideOf l side .count
+  side-node zero c h = sound .row-cards c h
+  side-node (suc n) c h = sound .row-shops c h
+
+  -- the file holds the records of the section
+  pub side-records : (side : ℕ) → sideOf l side .start + 4 * sideOf l side .count ≤ length s
+  side-records zero = omega (arith, sound .size, sound .card-place)
+  side-records (suc n) = omega (arith, sound .size, sound .shop-place)
+
+  module _ (side : ℕ) (X : ℕ → ℕ) where
+    pub section-fits :
+        FitsIn s (sideOf l side) (l .rows) (hangs (claims s l) side) X → FitsSide (networkOf s l) (limitOf s l) side X
+    unfolding onSide
+    section-fits =
+        part-fits (l .rows) (sideOf l side .count) (parentIn s (sideOf l side)) (limitIn s (sideOf l side))
+        (hangs (claims s l) side) (groupsOf l) (parentOf s l) (limitOf s l) (node (networkOf s l) side) (firstOf l side)
+        (side-hanging side) X
+
+    pub fits-section :
+        FitsSide (networkOf s l) (limitOf s l) side X → FitsIn s (sideOf l side) (l .rows) (hangs (claims s l) side) X
+    unfolding onSide
+    fits-section =
+        fits-part (l .rows) (sideOf l side .count) (parentIn s (sideOf l side)) (limitIn s (sideOf l side))
+        (hangs (claims s l) side) (groupsOf l) (parentOf s l) (limitOf s l) (node (networkOf s l) side) (firstOf l side)
+        (side-hanging side) X
+
+    pub section-rank :
+        (n : ℕ) →
+        Rank (l .rows) (λ Y. Selection (l .rows) Y × FitsIn s (sideOf l side) (l .rows) (hangs (claims s l) side) Y) X n →
+        Rank (l .rows) (Independent (networkOf s l) (limitOf s l) side) X n
+    unfolding onSide
+    section-rank =
+        part-rank (l .rows) (sideOf l side .count) (parentIn s (sideOf l side)) (limitIn s (sideOf l side))
+        (hangs (claims s l) side) (groupsOf l) (parentOf s l) (limitOf s l) (node (networkOf s l) side) (firstOf l side)
+        (side-hanging side) X

@@ -1,24 +1,29 @@
 // Which lists of rows fit the limits of a side, and what their ranks are.
 //
 // A selection is one byte a row, 1 where the row is in it; bytes past the last row are not read.
-// The rank is found by the greedy method: the rows are gone through in order, and a row is taken where every group that it
-// counts in has a place left. Since the limits of a side are a matroid, the rows taken are a largest independent set within the
-// selection. The cost is rows × depth; the memory is one count for each group of one side.
+// Each selected row is counted at the group that it names. Then the rows rise, from the last group to the first: a group passes on to
+// its parent as many as came to it, but no more than its limit. Since each parent has a smaller number, all that comes to a group has
+// come when its turn is. What comes to the top is the rank, and the selection fits where each group passed on all that came to it.
+// The cost is rows + groups; the memory is one count for each group of one side, and one for the top.
+// For one row more the groups from the row's own up to the top are asked for a place, by a walk through the parents.
 ghost use mathlib.Core.Path.{_≡_};
-ghost use Prim.Native.Nat.{_<_, _≤_};
+ghost use Prim.Native.Nat.{_+_, _*_, min, _<_, _≤_};
 ghost use lib.ListN.{length, getD};
 ghost use Rattle.theory.specs.Incidence.{plus};
 ghost use Rattle.theory.specs.Matroid.{row};
 ghost use Rattle.limits.specs.Answers.{faultNumber, bits, enteredBy, entered, Ready, fitsOf, rankedBy, oneMoreBy, Answered, Added};
 ghost use Rattle.claimfile.specs.declared.Reading.the-variants.{Accepted};
 ghost use Rattle.limits.specs.declared.Entry.the-variants.{Entered};
-ghost use Rattle.limits.specs.Side.{sideOf, hangs, HasRoom, Asked, CountedUp, Took, Chosen, Zero, Taken};
+ghost use Rattle.claimfile.specs.File.{word};
+ghost use Rattle.limits.specs.Side.{sideOf, parentBy, hangs, Asked, Zero, Counted, Passes, PassedOn, Begun, Rose, Placed};
 use claimfile::Layout;
 use claimfile::Reading;
 use claimfile::Refusal;
-use claimfile::claim_at;
 use claimfile::group_at;
 use claimfile::read;
+
+// The counts of a side: one for each of its groups, of which there are at most 256, and one for the top.
+const CELLS: usize = 257;
 
 // Why a call is turned away: a fault of the file, a selection that is too short, a value that is out of range.
 pub enum Fault {
@@ -52,16 +57,30 @@ pub struct Groups {
     pub count: usize,
 }
 
-// What the greedy method has found: how many rows were selected, and how many of them were taken.
+// What was found when the rows had risen: whether all came to the top, and how many did.
 pub struct Found {
-    pub selected: usize,
-    pub taken: usize,
+    pub fits: bool,
+    pub rank: usize,
 }
 
 fn wide(x: u16) -> usize
     ensures { λ r. ⌜ (r ≡ x) × (r < 65536) ⌝ }
 {
     x as usize
+}
+
+fn byte(x: u8) -> usize
+    ensures { λ r. ⌜ (r ≡ x) × (r < 256) ⌝ }
+{
+    x as usize
+}
+
+// The 16-bit number at a place in the file, low byte first.
+fn word_at(file: &[u8], at: usize) -> usize
+    requires { ⌜ at + 2 ≤ length (now file) ⌝ }
+    ensures { λ r. ⌜ (r ≡ word (now (file .entry)) at) × (r < 65536) ⌝ }
+{
+    byte(file[at]) + 256 * byte(file[at + 1])
 }
 
 // The group section of a side.
@@ -82,13 +101,13 @@ fn groups_of(layout: Layout, side: usize) -> Groups
 
 // The group where row `c` hangs on a side.
 fn group_of(claims: &[u8], side: usize, c: usize) -> usize
+    requires { ⌜ 5 * c + 5 ≤ length (now claims) ⌝ }
     ensures { λ r. ⌜ r ≡ hangs (now (claims .entry)) side c ⌝ }
 {
-    let claim = claim_at(claims, c);
     if side == 0 {
-        return claim.card;
+        return word_at(claims, 5 * c);
     }
-    claim.shop
+    word_at(claims, 5 * c + 2)
 }
 
 // Whether each group from `g` up has a place left beside the counts.
@@ -109,84 +128,89 @@ fn has_room(file: &[u8], groups: Groups, counts: &[u16], g: usize) -> bool
     has_room(file, groups, counts, group.parent)
 }
 
-// Counts one row more in each group from `g` up, all of which have a place left.
-fn count_up(file: &[u8], groups: Groups, counts: &mut [u16], g: usize)
-    requires { ⌜ groups .count ≤ length (now counts) ⌝ }
-    requires { ⌜ HasRoom (now file) groups (now counts) g ⌝ }
-    ensures { λ _. ⌜ CountedUp (now (file .entry)) groups (now (counts .entry)) (now (counts .exit)) g ⌝ }
+fn bit(x: u8) -> u16
+    ensures { λ r. ⌜ r ≡ x ⌝ }
 {
-    if groups.count <= g {
-        return;
-    }
-    let group = group_at(file, groups.start, g);
-    counts[g] = counts[g] + 1;
-    if group.parent < g {
-        count_up(file, groups, counts, group.parent);
-    }
+    x as u16
 }
 
-// Takes a row that hangs at group `g` where it has a place in every group that it counts in: 1 where it was taken, else 0.
-fn take(file: &[u8], groups: Groups, counts: &mut [u16], g: usize) -> usize
-    requires { ⌜ groups .count ≤ length (now counts) ⌝ }
-    ensures { λ r. ⌜ Took (now (file .entry)) groups (now (counts .entry)) (now (counts .exit)) g r ⌝ }
-{
-    if has_room(file, groups, counts, g) {
-        count_up(file, groups, counts, g);
-        return 1;
-    }
-    0
-}
-
-// Whether row `c` is in the selection with the row `extra` added.
-fn is_in(selection: &[u8], extra: usize, c: usize) -> bool
-    requires { ⌜ c < length (now selection) ⌝ }
-    requires { ⌜ getD (now selection) c 0 ≤ 1 ⌝ }
-    ensures { λ r. ⌜ Chosen (now (selection .entry)) extra c r ⌝ }
-{
-    if c == extra {
-        return true;
-    }
-    selection[c] == 1
-}
-
-// Goes through the rows in order and takes each that is in the selection with the row `extra` added and still has a place.
-fn take_rows(
-    file: &[u8],
-    layout: Layout,
-    selection: &[u8],
-    extra: usize,
-    side: usize,
-    counts: &mut [u16],
-) -> Found
+// Counts each selected row at the group that it names.
+fn count_rows(file: &[u8], layout: Layout, selection: &[u8], side: usize, counts: &mut [u16])
     requires { ⌜ Ready (now file) (now selection) layout ⌝ }
     requires { ⌜ Zero (now counts) ⌝ }
-    ensures { λ r. ⌜ Taken (now (file .entry)) (now (selection .entry)) layout extra side r ⌝ }
+    ensures { λ _. ⌜ Counted (now (file .entry)) (now (selection .entry)) layout side (now (counts .exit)) ⌝ }
 {
-    let groups = groups_of(layout, side);
     let row_at = layout.row_at;
     let claims = &file[row_at..];
     let rows = layout.rows;
-    let mut selected = 0;
-    let mut taken = 0;
     let mut c = 0;
     while c < rows {
-        if is_in(selection, extra, c) {
-            let g = group_of(claims, side, c);
-            selected += 1;
-            taken += take(file, groups, counts, g);
-        }
+        let g = group_of(claims, side, c);
+        counts[g] = counts[g] + bit(selection[c]);
         c += 1;
     }
-    Found { selected, taken }
 }
 
-// The greedy method on a side, for the selection with the row `extra` added; no row is added where `extra` is no row.
-fn greedy(file: &[u8], layout: Layout, selection: &[u8], extra: usize, side: usize) -> Found
-    requires { ⌜ Ready (now file) (now selection) layout ⌝ }
-    ensures { λ r. ⌜ Taken (now (file .entry)) (now (selection .entry)) layout extra side r ⌝ }
+// The count where what rises from group `g` goes: its parent's, or, where that is no smaller group, the one for the top.
+fn above(parent: usize, g: usize, top: usize) -> usize
+    ensures { λ r. ⌜ r ≡ parentBy top parent g ⌝ }
 {
-    let mut counts = [0u16; 256];
-    take_rows(file, layout, selection, extra, side, &mut counts)
+    if parent < g {
+        return parent;
+    }
+    top
+}
+
+// As many as came, but no more than the limit.
+fn lesser(come: u16, limit: usize) -> u16
+    ensures { λ r. ⌜ r ≡ min come limit ⌝ }
+{
+    if limit < wide(come) {
+        return limit as u16;
+    }
+    come
+}
+
+// Passes on what came to group `g`, and tells whether that was all.
+fn pass_on(file: &[u8], groups: Groups, counts: &mut [u16], g: usize) -> bool
+    requires { ⌜ Passes (now file) groups (now counts) g ⌝ }
+    ensures { λ r. ⌜ PassedOn (now (file .entry)) groups (now (counts .entry)) (now (counts .exit)) g r ⌝ }
+{
+    let at = groups.start + 4 * g;
+    let limit = word_at(file, at + 2);
+    let up = above(word_at(file, at), g, groups.count);
+    let come = counts[g];
+    counts[up] = counts[up] + lesser(come, limit);
+    wide(come) <= limit
+}
+
+// Lets the rows that are counted at their own groups rise, from the last group to the first. Where all came to the top, each count
+// is then the number of rows that count in that group.
+fn rise(file: &[u8], groups: Groups, counts: &mut [u16]) -> Found
+    requires { ⌜ Begun (now file) groups (now counts) ⌝ }
+    ensures { λ r. ⌜ Rose (now (file .entry)) groups (now (counts .entry)) (now (counts .exit)) r ⌝ }
+{
+    let top = groups.count;
+    let mut fits = true;
+    let mut g = top;
+    while 0 < g {
+        g -= 1;
+        fits = fits & pass_on(file, groups, counts, g);
+    }
+    Found {
+        fits,
+        rank: wide(counts[top]),
+    }
+}
+
+// Counts the selected rows and lets them rise, on a side of an accepted file.
+fn rise_on(file: &[u8], layout: Layout, selection: &[u8], side: usize, counts: &mut [u16]) -> Found
+    requires { ⌜ Ready (now file) (now selection) layout ⌝ }
+    requires { ⌜ Zero (now counts) ⌝ }
+    ensures { λ r. ⌜ Placed (now (file .entry)) (now (selection .entry)) layout side (now (counts .exit)) r ⌝ }
+{
+    count_rows(file, layout, selection, side, counts);
+    rise(file, groups_of(layout, side), counts)
 }
 
 // Whether each of the first `rows` bytes of a selection is 0 or 1.
@@ -237,20 +261,31 @@ fn rank_on(file: &[u8], layout: Layout, selection: &[u8], side: usize) -> Ranked
     if 1 < side {
         return Ranked::Refused(Fault::Value);
     }
-    let found = greedy(file, layout, selection, layout.rows, side);
+    let mut counts = [0u16; CELLS];
+    let found = rise_on(file, layout, selection, side, &mut counts);
     Ranked::Told {
-        fits: found.taken == found.selected,
-        rank: found.taken,
+        fits: found.fits,
+        rank: found.rank,
     }
 }
 
 // Whether the selection with a row added fits a side of an accepted file.
 fn fits_with(file: &[u8], layout: Layout, selection: &[u8], extra: usize, side: usize) -> bool
     requires { ⌜ Ready (now file) (now selection) layout ⌝ }
+    requires { ⌜ extra < layout .rows ⌝ }
     ensures { λ r. ⌜ r ≡ fitsOf (now (file .entry)) layout side (plus (row (now (selection .entry))) extra) ⌝ }
 {
-    let found = greedy(file, layout, selection, extra, side);
-    found.taken == found.selected
+    let mut counts = [0u16; CELLS];
+    let found = rise_on(file, layout, selection, side, &mut counts);
+    if !found.fits {
+        return false;
+    }
+    if selection[extra] == 1 {
+        return true;
+    }
+    let row_at = layout.row_at;
+    let g = group_of(&file[row_at..], side, extra);
+    has_room(file, groups_of(layout, side), &counts, g)
 }
 
 // One more for a selection of an accepted file.

@@ -1,33 +1,38 @@
 -- Laws of the search in the buffers.
 --   same-tables tables-same same-ready same-lists    a search leaves the residual network and the lists
---   looked-took looked-passed      one arc
---   scanned-none scanned-less scanned-look open-on scan-all    the arcs out of a node
---   along-first along-next along-item along-end      its items, one after another
---   queued-first queued-open queued-next queued-found queued-lost    the queue
---   cleared-none cleared-more begun begun-seeded begun-searched      before the first turn
-use mathlib.Core.Path.{_≡_, refl, sym, ap, subst, _∙_}
-use mathlib.Core.Logic.{_⊎_, inl, inr, ⊎-elim}
-use mathlib.Core.Bool.{Bool, true, false}
+--   reached-of             a node is reached
+--   only-most label-fits tried-of    a node is looked at
+--   looking-most looked-tried looked-as up-node ends-below    one arc
+--   scanned-none scanned-less scanned-look scanned-more scanned-items scanned-every open-on open-look    the arcs out of a node
+--   rising-told rising-none rising-card rising-shop scanned-all    its up arc, before the items or after them
+--   item-down item-row ends-card ends-shop at-shop    an item, as looking along it asks
+--   open-node along-first along-next along-open along-item along-end    the items, one after another
+use mathlib.Core.Path.{_≡_, refl, sym, ap, subst, fun-ext, _∙_}
+use mathlib.Core.Logic.{_⊎_, _≢_, inl, inr, ⊎-elim}
+use mathlib.Core.Bool.{Bool, true, false, _&&_, true≢false}
 use mathlib.Core.List.{List}
-use Prim.Native.Nat.{ℕ, _+_, _≤_, _<_}
+use Prim.Native.Nat.{ℕ, _+_, _-_, _≤_, _<_}
 use native.Mathlib.Decide.{ℕ-discrete, decLt}
 use native.Mathlib.Omega.{arith}
-use native.Mathlib.Nat.{le-refl}
-use lib.ListN.{length}
-use Rattle.theory.specs.Network.{Network, Formed}
+use lib.Dec.{eqb, ltb, leb}
+use lib.ListN.{getD}
+use borrow.Author.Tests.{eqb-true, eq-eqb, ltb-true, lt-ltb, le-leb}
+use Rattle.theory.specs.Network.{Formed}
 use Rattle.theory.specs.Residual.{Residual, Arc}
 use Rattle.theory.specs.Turn.{Puts}
-use Rattle.theory.proofs.ResidualLaws.{one-head}
+use Rattle.theory.proofs.ResidualLaws.{one-head, card-below, shop-below, parent-below}
+use Rattle.theory.proofs.TestLaws.{either, and-true, true-and}
 use Rattle.theory.proofs.TurnLaws.{puts-at}
 use Rattle.residual.specs.declared.Shape.{Shape}
-use Rattle.residual.specs.Map.{predOf, queueOf, spareOf, firstOf, keptOf, preds, queues, spares, Room, Put, OnlySearch}
+use Rattle.residual.specs.Map.{labelOf, predOf, queueOf, spareOf, firstOf, cardOf, shopOf, parentOf, keptOf, labels, queues, spares, span, Few, Put, OnlySearch}
 use Rattle.residual.specs.State.{network, residual, Priced, Ready}
-use Rattle.residual.specs.Items.{RowAt, Hang, Least, Lists}
-use Rattle.residual.specs.Reach.{Reach, Done, Grew, Took, Passed}
-use Rattle.residual.specs.Search.{ReachOf, Looked, Open, Scanned, Seeded, Asked, Searched, AtItem, Cleared, Begun, Every}
-use Rattle.residual.proofs.MapLaws.{keeps-none, keeps-then, put-keeps, room-keeps, residual-same}
-use Rattle.residual.proofs.ListLaws.{lists-keep}
-use Rattle.residual.proofs.ReachLaws.{reached-most, arc-item, grew-none, grew-then, took-grew, passed-grew, reach-first}
+use Rattle.residual.specs.Items.{RowItem, ChildItem, Item, ItemArc, Least, Lists, arcAt}
+use Rattle.residual.specs.Reach.{Reach, Grew, Took, Passed}
+use Rattle.residual.specs.Search.{Looking, Looked, Open, Scanned, Rising, AtItem, Ends, Reached, Tried, Leads, Every}
+use Rattle.residual.proofs.MapLaws.{keeps-none, keeps-then, put-keeps, room-keeps, residual-same, table-small}
+use Rattle.residual.proofs.LabelLaws.{spread-stale}
+use Rattle.residual.proofs.ListLaws.{child-of, row-of, links-keep}
+use Rattle.residual.proofs.ReachLaws.{reached-most, arc-item, grew-none, grew-then, took-grew, passed-grew, item-shop}
 
 --------------------------------------------------------------------------------
 -- What a search leaves
@@ -62,297 +67,335 @@ module _ (sheet : List ℕ) {sh : Shape} {s t : List ℕ} (A : OnlySearch sh s t
     priced = same-tables (λ x f. Priced x (keptOf ch)) (R .priced);
   }
 
-  pub same-lists : Lists sh s → Lists sh t
-  same-lists = lists-keep (λ k l p. omega arith) A
+  pub same-lists : Lists sh sheet s → Lists sh sheet t
+  same-lists = links-keep sheet (λ k l p. omega arith) A
 
 --------------------------------------------------------------------------------
 -- One arc
 
-module _ {sh : Shape} {sheet ch s : List ℕ} {u e n : ℕ} where
-  pub looked-took :
-      {v : ℕ} {m t : List ℕ} → v < sh .groups + 2 → Arc (residual sh sheet s) (keptOf ch) (spareOf sh s) e u v 0 → predOf sh s v ≡ 0 →
-      Put sh s m preds v (e + 1) → Put sh m t queues n v → Looked sh sheet ch s t u e n (n + 1)
-  looked-took {v} {m} {t} l A z P Q =
-      let p : predOf sh t ≡ predOf sh m = Q .rest preds (λ k. omega arith) in
-      let q : queueOf sh m ≡ queueOf sh s = P .rest queues (λ k. omega arith) in
-      record {
-        only = keeps-then (put-keeps (omega arith) P) (put-keeps (omega arith) Q);
-        step =
-            inl (record {
-              v = v;
-              node = l;
-              arc = A;
-              new = z;
-              pred-puts = rw p (P .puts);
-              queue-puts = rw q at (Q .puts);
-              more = refl;
-            });
-      }
+pub reached-of :
+    {sh : Shape} {s m t : List ℕ} {v e n : ℕ} → Put sh s m labels v (sh .fresh + e + 1) → Put sh m t queues n v → Reached sh s t v e n
+reached-of {sh} {s} {m} {t} P Q =
+    let p : labelOf sh t ≡ labelOf sh m = Q .rest labels (λ k. omega arith) in
+    let q : queueOf sh m ≡ queueOf sh s = P .rest queues (λ k. omega arith) in
+    record {
+      only = keeps-then (put-keeps (omega arith) P) (put-keeps (omega arith) Q);
+      label = rw p (P .puts);
+      queue = rw q at (Q .puts);
+    }
 
-  pub looked-passed :
-      Passed (residual sh sheet s) (keptOf ch) (spareOf sh s) (predOf sh s) (queueOf sh s) n (predOf sh s) (queueOf sh s) n u e →
-      Looked sh sheet ch s s u e n n
-  looked-passed P = record { only = keeps-none; step = inr P }
+-- what is put where it stood changes nothing
+puts-same : {f g : ℕ → ℕ} {k : ℕ} → Puts f g k (f k) → g ≡ f
+puts-same {f} P = fun-ext (λ i. ⊎-elim (λ w. w .1 ∙ ap f (sym (w .0))) (λ w. w .1) (puts-at P i))
+
+-- what `only` gives
+abbrev Only : Bool → ℕ → ℕ → Type 0
+Only b x r = (b ≡ true → r ≡ x) × (b ≡ false → r ≡ 0)
+
+pub only-most : {b : Bool} {x r : ℕ} → Only b x r → r ≤ x
+only-most {b} o = ⊎-elim (λ t. omega (arith, o .0 t)) (λ t. omega (arith, o .1 t)) (either b)
+
+-- node v is looked at: its label was `was`, and k is put to it
+module _
+    (sh : Shape) (s : List ℕ) (v e : ℕ) (b : Bool) {was k : ℕ} (at : was ≡ labelOf sh s v) (o : Only (b && eqb was (sh .fresh)) (e + 1) k)
+  where
+    pub label-fits : Few sh → e + 1 < span → ((j : ℕ) → getD s j 0 < 4294967296) → was + k < 4294967296
+    label-fits F l m =
+        ⊎-elim
+        (λ t. omega (arith, F .fresh, o .0 t, eqb-true was (sh .fresh) (and-true b (eqb was (sh .fresh)) t .1)))
+        (λ t. omega (arith, o .1 t, table-small sh s labels v m))
+        (either (b && eqb was (sh .fresh)))
+
+    pub tried-of :
+        {m t : List ℕ} {n j : ℕ} → Put sh s m labels v (was + k) → Put sh m t queues n v → Only (b && eqb was (sh .fresh)) 1 j →
+        Tried sh s t v e b n (n + j)
+    tried-of {m} {t} {n} {j} P Q i =
+        let p : labelOf sh t ≡ labelOf sh m = Q .rest labels (λ k. omega arith) in
+        let q : queueOf sh m ≡ queueOf sh s = P .rest queues (λ k. omega arith) in
+        record {
+          only = keeps-then (put-keeps (omega arith) P) (put-keeps (omega arith) Q);
+          queue = rw q at (Q .puts);
+          step =
+              ⊎-elim
+              (λ y.
+              let w = and-true b (eqb was (sh .fresh)) y in
+              let z : was ≡ sh .fresh = eqb-true was (sh .fresh) (w .1) in
+              let x : was + k ≡ sh .fresh + e + 1 = omega (arith, o .0 y) in
+              inl ((w .0, sym at ∙ z), (rw (p, sym x) (P .puts), omega (arith, i .0 y))))
+              (λ y.
+              let x : was + k ≡ labelOf sh s v = omega (arith, o .1 y) in
+              inr (
+                λ h z. true≢false (sym (true-and b (eqb was (sh .fresh)) h (eq-eqb was (sh .fresh) (at ∙ z))) ∙ y),
+                (p ∙ puts-same (rw x at (P .puts)), omega (arith, i .1 y)),
+              ))
+              (either (b && eqb was (sh .fresh)));
+        }
+
+module _ {sh : Shape} {sheet ch s : List ℕ} {n : ℕ} where
+  pub looking-most : Looking sh sheet ch s n → n ≤ sh .groups + 2
+  looking-most L = omega (arith, L .count, reached-most (predOf sh s) (sh .groups + 2))
+
+  pub looked-tried :
+      {t : List ℕ} {u v e n′ : ℕ} {b : Bool} → v < sh .groups + 2 → e + 1 < span → Leads sh sheet ch s e u v b →
+      Tried sh s t v e b n n′ → Looked sh sheet ch s t u e n n′
+  looked-tried {v = v} l m L T = record {
+    only = T .only;
+    step =
+        elim (T .step) [
+          | inl w ↦
+              inl (record {
+                v = v;
+                node = l;
+                arc = L .yes (w .0 .0);
+                new = w .0 .1;
+                small = m;
+                label-puts = w .1 .0;
+                queue-puts = T .queue;
+                more = w .1 .1;
+              })
+          | inr w ↦
+              inr (record {
+                none = λ x A z. let o = L .only x A in w .0 (o .0) (ap (labelOf sh s) (sym (o .1)) ∙ z);
+                label-same = w .1 .0;
+                queue-same = λ i k. T .queue .else i (λ d. omega arith);
+                same = w .1 .1;
+              })
+        ];
+  }
+
+pub looked-as :
+    {sh : Shape} {sheet ch s t : List ℕ} {u v e f n n′ : ℕ} → u ≡ v → e ≡ f → Looked sh sheet ch s t u e n n′ → Looked sh sheet ch s t v f n n′
+looked-as p q L = rw (p, q) at L
+
+-- where an arc leads
+module _ {sh : Shape} {sheet ch s : List ℕ} {u v : ℕ} (R : Ready sh sheet ch s) where
+  pub up-node : u < sh .groups → v ≡ parentOf sh s u → v < sh .groups + 2
+  up-node l i = rw i (parent-below (network sh s) (R .formed) u l)
+
+  pub ends-below : {c x : ℕ} → Ends sh s c u v x → v < sh .groups + 2
+  ends-below {c} E =
+      ⊎-elim
+      (λ w. rw (w .1 .1) (shop-below (network sh s) (R .formed) c (E .row)))
+      (λ w. rw (w .1 .1) (card-below (network sh s) (R .formed) c (E .row)))
+      (E .ends)
 
 --------------------------------------------------------------------------------
 -- The arcs out of a node
 
-module _ {sh : Shape} {sheet ch s₀ : List ℕ} {u n : ℕ} where
-  pub scanned-none : Open sh sheet ch s₀ u n → Scanned sh sheet ch s₀ s₀ u n n (λ e. ⊥)
+module _ {sh : Shape} {sheet ch s₀ : List ℕ} {u h n : ℕ} where
+  pub scanned-none : Open sh sheet ch s₀ u h n → Scanned sh sheet ch s₀ s₀ u h n n (λ e. ⊥)
   scanned-none O = record {
     only = keeps-none;
-    grew = grew-none (residual sh sheet s₀) (keptOf ch) (spareOf sh s₀) (O .reach);
-    done = λ e v h A. absurd h;
+    grew = grew-none (residual sh sheet s₀) (keptOf ch) (spareOf sh s₀) (sh .fresh) (O .reach);
+    done = λ e v k A. absurd k;
   }
 
   pub scanned-less :
       {s : List ℕ} {k : ℕ} {P Q : ℕ → Type 0} → ((e : ℕ) → Q e → P e) →
-      Scanned sh sheet ch s₀ s u n k P → Scanned sh sheet ch s₀ s u n k Q
-  scanned-less f W = record { only = W .only; grew = W .grew; done = λ e v h A. W .done e v (f e h) A }
+      Scanned sh sheet ch s₀ s u h n k P → Scanned sh sheet ch s₀ s u h n k Q
+  scanned-less f W = record { only = W .only; grew = W .grew; done = λ e v i A. W .done e v (f e i) A }
 
-  module _ (O : Open sh sheet ch s₀ u n) {s : List ℕ} {k : ℕ} {P : ℕ → Type 0} (W : Scanned sh sheet ch s₀ s u n k P) where
+  -- every open arc is the up arc or that of an item
+  pub scanned-every :
+      {s : List ℕ} {k : ℕ} {P : ℕ → Type 0} → sh .free ≤ sh .rows → ((e : ℕ) → ((u < sh .groups) × (e ≡ sh .groups + sh .rows + u)) → P e) →
+      ((e : ℕ) → ItemArc (residual sh sheet s₀) u e → P e) → Scanned sh sheet ch s₀ s u h n k P → Scanned sh sheet ch s₀ s u h n k Every
+  scanned-every free f g W = record {
+    only = W .only;
+    grew = W .grew;
+    done = λ e v i A. ⊎-elim
+        (λ d. W .done e v (f e d) A)
+        (λ d. W .done e v (g e d) A)
+        (arc-item (residual sh sheet s₀) (keptOf ch) (spareOf sh s₀) free e u v A);
+  }
+
+  module _ (O : Open sh sheet ch s₀ u h n) {s : List ℕ} {k : ℕ} {P : ℕ → Type 0} (W : Scanned sh sheet ch s₀ s u h n k P) where
     -- the scan may go on from here
-    pub open-on : Open sh sheet ch s u k
+    pub open-on : Open sh sheet ch s u h k
     open-on = record {
       ready = same-ready sheet (W .only) (O .ready);
+      free = O .free;
       lists = same-lists sheet (W .only) (O .lists);
-      node = O .node;
-      from = W .grew .more u (O .from);
-      reach = same-tables sheet (W .only) (λ x f. Reach x (keptOf ch) f (predOf sh s) (queueOf sh s) k) (W .grew .reach);
+      early = omega (arith, O .early, W .grew .grow);
+      at = W .grew .keep h (O .early) ∙ O .at;
+      reach = same-tables sheet (W .only) (λ x f. Reach x (keptOf ch) f (predOf sh s) (queueOf sh s) (h + 1) k) (W .grew .reach);
     }
 
+    pub open-look : Looking sh sheet ch s k
+    open-look = record { ready = open-on .ready; count = W .grew .reach .size }
+
     pub scanned-look :
-        {s′ : List ℕ} {e k′ : ℕ} → Looked sh sheet ch s s′ u e k k′ → Scanned sh sheet ch s₀ s′ u n k′ (λ f. P f ⊎ (f ≡ e))
+        {s′ : List ℕ} {e k′ : ℕ} → Looked sh sheet ch s s′ u e k k′ → Scanned sh sheet ch s₀ s′ u h n k′ (λ f. P f ⊎ (f ≡ e))
     scanned-look {s′} {e} {k′} L =
         let r : Residual = residual sh sheet s₀ in
+        let b : ℕ = sh .fresh in
         ⊎-elim
-        (λ (T : Took r (keptOf ch) (spareOf sh s₀) (predOf sh s) (queueOf sh s) k (predOf sh s′) (queueOf sh s′) k′ u e).
-        let g = took-grew r (keptOf ch) (spareOf sh s₀) (W .grew .reach) (O .node) (W .grew .more u (O .from)) T in
+        (λ (T : Took r (keptOf ch) (spareOf sh s₀) b (labelOf sh s) (queueOf sh s) k (labelOf sh s′) (queueOf sh s′) k′ u e).
+        let g = took-grew r (keptOf ch) (spareOf sh s₀) b (W .grew .reach) (open-on .early) (open-on .at) T in
         record {
           only = keeps-then (W .only) (L .only);
-          grew = grew-then r (keptOf ch) (spareOf sh s₀) (W .grew) g;
-          done = λ f v h A. ⊎-elim
-              (λ (p : P f). g .more v (W .done f v p A))
+          grew = grew-then r (keptOf ch) (spareOf sh s₀) b (W .grew) g;
+          done = λ f v i A. ⊎-elim
+              (λ (p : P f). spread-stale b (labelOf sh s) (labelOf sh s′) (g .spread) v (W .done f v p A))
               (λ (i : f ≡ e).
               let j : v ≡ T .v = one-head r (keptOf ch) (spareOf sh s₀) e u u v (T .v) 0 0 (rw i at A) (T .arc) in
-              rw j (omega (arith, T .pred-puts .here)))
-              h;
+              λ z. omega (arith, ap (labelOf sh s′) j, T .label-puts .here))
+              i;
         })
-        (λ (T : Passed r (keptOf ch) (spareOf sh s₀) (predOf sh s) (queueOf sh s) k (predOf sh s′) (queueOf sh s′) k′ u e).
-        let g = passed-grew r (keptOf ch) (spareOf sh s₀) (W .grew .reach) T in
+        (λ (T : Passed r (keptOf ch) (spareOf sh s₀) b (labelOf sh s) (queueOf sh s) k (labelOf sh s′) (queueOf sh s′) k′ u e).
+        let g = passed-grew r (keptOf ch) (spareOf sh s₀) b (W .grew .reach) T in
         record {
           only = keeps-then (W .only) (L .only);
-          grew = grew-then r (keptOf ch) (spareOf sh s₀) (W .grew) g;
-          done = λ f v h A. ⊎-elim
-              (λ (p : P f). g .more v (W .done f v p A))
-              (λ (i : f ≡ e). g .more v (T .none v (rw i at A)))
-              h;
+          grew = grew-then r (keptOf ch) (spareOf sh s₀) b (W .grew) g;
+          done = λ f v i A.
+              spread-stale b (labelOf sh s) (labelOf sh s′) (g .spread) v
+              (⊎-elim (λ (p : P f). W .done f v p A) (λ (i : f ≡ e). T .none v (rw i at A)) i);
         })
         (tables-same sheet (W .only)
         (λ x f.
-        Took x (keptOf ch) f (predOf sh s) (queueOf sh s) k (predOf sh s′) (queueOf sh s′) k′ u e
-        ⊎ Passed x (keptOf ch) f (predOf sh s) (queueOf sh s) k (predOf sh s′) (queueOf sh s′) k′ u e)
+        Took x (keptOf ch) f b (labelOf sh s) (queueOf sh s) k (labelOf sh s′) (queueOf sh s′) k′ u e
+        ⊎ Passed x (keptOf ch) f b (labelOf sh s) (queueOf sh s) k (labelOf sh s′) (queueOf sh s′) k′ u e)
         (L .step))
 
--- the scan stands at item j: those before it that hang at u are done
-pub record Along (sh : Shape) (sheet ch s₀ : List ℕ) (u n : ℕ) (s : List ℕ) (j k : ℕ) : Type 0 where
-  pub hang : j < sh .groups + sh .rows → Hang (network sh s₀) u j
-  pub scan : Scanned sh sheet ch s₀ s u n k (λ e. Hang (network sh s₀) u e × (e < j))
+    -- and then along other arcs
+    pub scanned-more :
+        {s′ : List ℕ} {k′ : ℕ} {Q : ℕ → Type 0} → Scanned sh sheet ch s s′ u h k k′ Q → Scanned sh sheet ch s₀ s′ u h n k′ (λ e. P e ⊎ Q e)
+    scanned-more {s′} {k′} {Q} X =
+        let b : ℕ = sh .fresh in
+        let G = tables-same sheet (W .only) (λ x f. Grew x (keptOf ch) f b (labelOf sh s) (queueOf sh s) k (labelOf sh s′) (queueOf sh s′) (h + 1) k′) (X .grew) in
+        let D = tables-same sheet (W .only) (λ x f. (e v : ℕ) → Q e → Arc x (keptOf ch) f e u v 0 → labelOf sh s′ v ≢ b) (X .done) in
+        record {
+          only = keeps-then (W .only) (X .only);
+          grew = grew-then (residual sh sheet s₀) (keptOf ch) (spareOf sh s₀) b (W .grew) G;
+          done = λ e v i A. ⊎-elim
+              (λ p. spread-stale b (labelOf sh s) (labelOf sh s′) (G .spread) v (W .done e v p A))
+              (λ p. D e v p A)
+              i;
+        }
 
-module _ {sh : Shape} {sheet ch s₀ : List ℕ} {u n : ℕ} (O : Open sh sheet ch s₀ u n) where
-  pub along-first : {j : ℕ} → j ≡ firstOf sh s₀ u → Along sh sheet ch s₀ u n s₀ j n
+    -- and then along the items
+    pub scanned-items :
+        {s′ : List ℕ} {k′ : ℕ} → Scanned sh sheet ch s s′ u h k k′ (ItemArc (residual sh sheet s) u) →
+        Scanned sh sheet ch s₀ s′ u h n k′ (λ e. P e ⊎ ItemArc (residual sh sheet s₀) u e)
+    scanned-items {s′} {k′} X =
+        scanned-more (tables-same sheet (W .only) (λ x f. Scanned sh sheet ch s s′ u h k k′ (ItemArc x u)) X)
+
+pub rising-shop : (sh : Shape) (u : ℕ) → (leb (sh .cards) u && ltb u (sh .groups)) ≡ true → u < sh .groups
+rising-shop sh u t = ltb-true u (sh .groups) (and-true (leb (sh .cards) u) (ltb u (sh .groups)) t .1)
+
+module _ {sh : Shape} {sheet ch s₀ : List ℕ} {u h n : ℕ} where
+  pub rising-told :
+      {s : List ℕ} {k : ℕ} {b : Bool} → Open sh sheet ch s₀ u h n → Looked sh sheet ch s₀ s u (sh .groups + sh .rows + u) n k →
+      Scanned sh sheet ch s₀ s u h n k (Rising sh u b)
+  rising-told O L = scanned-less (λ e i. inr (i .1)) (scanned-look O (scanned-none O) L)
+
+  pub rising-none : {b : Bool} → b ≡ false → Open sh sheet ch s₀ u h n → Scanned sh sheet ch s₀ s₀ u h n n (Rising sh u b)
+  rising-none z O = scanned-less (λ e i. true≢false (sym (i .0) ∙ z)) (scanned-none O)
+
+  pub rising-card : Open sh sheet ch s₀ u h n → ltb u (sh .cards) ≡ true → u < sh .groups
+  rising-card O t = omega (arith, ltb-true u (sh .cards) t, O .ready .formed .sides)
+
+  -- the up arc is looked along at a card or at a shop
+  pub scanned-all :
+      {s : List ℕ} {k : ℕ} → sh .free ≤ sh .rows →
+      Scanned sh sheet ch s₀ s u h n k
+      (λ e. (Rising sh u (ltb u (sh .cards)) e ⊎ ItemArc (residual sh sheet s₀) u e) ⊎ Rising sh u (leb (sh .cards) u && ltb u (sh .groups)) e) →
+      Scanned sh sheet ch s₀ s u h n k Every
+  scanned-all free W =
+      scanned-every free
+      (λ e i.
+      elim (decLt u (sh .cards)) [
+        | yes l ↦ inl (inl (lt-ltb u (sh .cards) l, i .1))
+        | no l ↦ inr (true-and _ _ (le-leb (sh .cards) u (omega arith)) (lt-ltb u (sh .groups) (i .0)), i .1)
+      ])
+      (λ e i. inl (inr i)) W
+
+--------------------------------------------------------------------------------
+-- The items of a node
+
+module _ {sh : Shape} {sheet s : List ℕ} {u j : ℕ} (A : AtItem sh sheet s u j) where
+  pub item-down : sh .rows ≤ j → ChildItem (residual sh sheet s) u (sh .rows + (j - sh .rows))
+  item-down l =
+      let e : sh .rows + (j - sh .rows) ≡ j = omega arith in
+      rw e (child-of (residual sh sheet s) l (A .item))
+
+  -- at either of its nodes
+  pub item-row :
+      {w : ℕ} → j < sh .rows → (cardOf sh s j ≡ w) ⊎ (shopOf sh s j ≡ w) → (sh .free ≤ j) × RowItem (residual sh sheet s) w j
+  item-row l at = (A .live, record { row = l; at = at; even = row-of (residual sh sheet s) l (A .item) .even })
+
+  module _ {a b : ℕ} (l : j < sh .rows) (ca : a ≡ cardOf sh s j) (sb : b ≡ shopOf sh s j) where
+    pub ends-card : Ends sh s j a b 0
+    ends-card = record { row = l; ends = inl (refl, (ca, sb)) }
+
+    pub ends-shop : Ends sh s j b a 1
+    ends-shop = record { row = l; ends = inr (refl, (sb, ca)) }
+
+    pub at-shop : a ≢ u → b ≡ u
+    at-shop n = sb ∙ item-shop (residual sh sheet s) u j (A .item) l (λ z. n (ca ∙ z))
+
+-- the scan stands at item j: those before it in the list of u are done
+pub record Along (sh : Shape) (sheet ch s₀ : List ℕ) (u h n : ℕ) (s : List ℕ) (j k : ℕ) : Type 0 where
+  pub item : j < sh .rows + sh .groups → Item (residual sh sheet s₀) u j
+  pub live : sh .free ≤ j
+  pub scan : Scanned sh sheet ch s₀ s u h n k (λ e. (w : ItemArc (residual sh sheet s₀) u e) × (w .j < j))
+
+module _ {sh : Shape} {sheet ch s₀ : List ℕ} {u h n : ℕ} (O : Open sh sheet ch s₀ u h n) where
+  pub open-node : u < sh .groups + 2
+  open-node = omega (arith, O .at, O .reach .node h (O .early))
+
+  pub along-first : {j : ℕ} → j ≡ firstOf sh s₀ u → Along sh sheet ch s₀ u h n s₀ j n
   along-first {j} i =
-      let M : Least (network sh s₀) u 0 j = rw i (O .lists .at-first u (O .node)) in
+      let M : Least (residual sh sheet s₀) u (sh .free) j = rw i (O .lists .at-first u open-node) in
       record {
-        hang = M .hangs;
-        scan =
-            scanned-less (λ e h. M .none e (omega arith) (h .1) (h .0)) (scanned-none O);
+        item = M .item;
+        live = M .low;
+        scan = scanned-less (λ e w. M .none (w .0 .j) (w .0 .live) (w .1) (w .0 .item)) (scanned-none O);
       }
 
-  module _ {s : List ℕ} {j k : ℕ} (A : Along sh sheet ch s₀ u n s j k) where
+  module _ {s : List ℕ} {j k : ℕ} (A : Along sh sheet ch s₀ u h n s j k) where
     pub along-next :
-        {s′ : List ℕ} {k′ j′ : ℕ} → Looked sh sheet ch s s′ u j k k′ → Least (network sh s′) u (j + 1) j′ →
-        Along sh sheet ch s₀ u n s′ j′ k′
+        {s′ : List ℕ} {k′ j′ : ℕ} → Looked sh sheet ch s s′ u (arcAt (network sh s) j) k k′ →
+        Least (residual sh sheet s′) u (j + 1) j′ → Along sh sheet ch s₀ u h n s′ j′ k′
     along-next {j′ = j′} L M =
         let W = scanned-look O (A .scan) L in
-        let N : Least (network sh s₀) u (j + 1) j′ = tables-same sheet (W .only) (λ x f. Least (x .net) u (j + 1) j′) M in
+        let N : Least (residual sh sheet s₀) u (j + 1) j′ = tables-same sheet (W .only) (λ x f. Least x u (j + 1) j′) M in
         record {
-          hang = N .hangs;
+          item = N .item;
+          live = omega (arith, A .live, N .low);
           scan =
               scanned-less
-              (λ e h.
-              elim (decLt e j) [
-                | yes l ↦ inl (h .0, l)
+              (λ e w.
+              elim (decLt (w .0 .j) j) [
+                | yes l ↦ inl (w .0, l)
                 | no l ↦
-                    elim (ℕ-discrete e j) [
-                      | yes i ↦ inr i
-                      | no i ↦ absurd (N .none e (omega arith) (h .1) (h .0))
+                    elim (ℕ-discrete (w .0 .j) j) [
+                      | yes i ↦ inr (w .0 .code ∙ ap (arcAt (network sh s₀)) i)
+                      | no i ↦ absurd (N .none (w .0 .j) (omega arith) (w .1) (w .0 .item))
                     ]
               ])
               W;
         }
 
-    pub along-end : sh .groups + sh .rows ≤ j → Scanned sh sheet ch s₀ s u n k (Hang (network sh s₀) u)
+    pub along-end : sh .rows + sh .groups ≤ j → Scanned sh sheet ch s₀ s u h n k (ItemArc (residual sh sheet s₀) u)
     along-end l =
         scanned-less
-        (λ e h. (h, ⊎-elim (λ (c : (e < sh .groups) × _). omega (arith, c .0)) (λ R. omega (arith, R .row, R .code)) h))
+        (λ e w. (w, ⊎-elim (λ R. omega (arith, R .row)) (λ C. omega (arith, C .group, C .code)) (w .item)))
         (A .scan)
 
-    -- what the loop asks of the next item
+    -- what looking along the item, and then the next one, asks
+    at-item : {s′ : List ℕ} → j < sh .rows + sh .groups → OnlySearch sh s₀ s′ → AtItem sh sheet s′ u j
+    at-item l K = record {
+      room = room-keeps (K .long) (O .ready .buffers .room);
+      lists = same-lists sheet K (O .lists);
+      item = same-tables sheet K (λ x f. Item x u j) (A .item l);
+      live = A .live;
+      low = l;
+    }
+
+    pub along-open : j < sh .rows + sh .groups → AtItem sh sheet s u j
+    along-open l = at-item l (A .scan .only)
+
     pub along-item :
-        {s′ : List ℕ} {k′ : ℕ} → j < sh .groups + sh .rows → Looked sh sheet ch s s′ u j k k′ → AtItem sh s′ u j
-    along-item {s′} l L =
-        let W = scanned-look O (A .scan) L in
-        record {
-          room = room-keeps (W .only .long) (O .ready .buffers .room);
-          lists = same-lists sheet (W .only) (O .lists);
-          hang = same-tables sheet (W .only) (λ x f. Hang (x .net) u j) (A .hang l);
-          low = l;
-        }
-
-  -- the whole scan: the up arc first, where there is one
-  pub scan-all :
-      {s s′ : List ℕ} {k k′ : ℕ} {P : ℕ → Type 0} → Scanned sh sheet ch s₀ s u n k P → Scanned sh sheet ch s s′ u k k′ (Hang (network sh s) u) →
-      ((e : ℕ) → ((u < sh .groups) × (e ≡ sh .groups + sh .rows + u)) → P e) → Scanned sh sheet ch s₀ s′ u n k′ Every
-  scan-all {s} {s′} {k} {k′} W X up =
-      let G = tables-same sheet (W .only) (λ x f. Grew x (keptOf ch) f (predOf sh s) (queueOf sh s) k (predOf sh s′) (queueOf sh s′) k′) (X .grew) in
-      let D = tables-same sheet (W .only) (λ x f. (e v : ℕ) → Hang (x .net) u e → Arc x (keptOf ch) f e u v 0 → 0 < predOf sh s′ v) (X .done) in
-      record {
-        only = keeps-then (W .only) (X .only);
-        grew = grew-then (residual sh sheet s₀) (keptOf ch) (spareOf sh s₀) (W .grew) G;
-        done = λ e v h A. ⊎-elim
-            (λ i. G .more v (W .done e v (up e i) A))
-            (λ i. D e v i A)
-            (arc-item (residual sh sheet s₀) (keptOf ch) (spareOf sh s₀) e u v 0 A);
-      }
-
---------------------------------------------------------------------------------
--- The queue
-
--- n nodes are reached, and the first h of them are done
-pub record Queued (sh : Shape) (sheet ch s₀ s : List ℕ) (n h : ℕ) : Type 0 where
-  pub only : OnlySearch sh s₀ s
-  pub reach : ReachOf sh sheet ch s₀ s n
-  pub begin : queueOf sh s 0 ≡ queueOf sh s₀ 0
-  pub high : h ≤ n
-  pub done : (i : ℕ) → i < h → Done (residual sh sheet s₀) (keptOf ch) (spareOf sh s₀) (predOf sh s) (queueOf sh s i)
-
-module _ {sh : Shape} {sheet ch s₀ : List ℕ} {target : ℕ} (B : Seeded sh sheet ch s₀ target) where
-  pub queued-first : Queued sh sheet ch s₀ s₀ 1 0
-  queued-first = record {
-    only = keeps-none;
-    reach = B .reach;
-    begin = refl;
-    high = omega arith;
-    done = λ i l. absurd (omega arith);
-  }
-
-  module _ {s : List ℕ} {n h : ℕ} (W : Queued sh sheet ch s₀ s n h) where
-    pub queued-most : n ≤ sh .groups + 2
-    queued-most = omega (arith, W .reach .size, reached-most (predOf sh s) (sh .groups + 2))
-
-    pub queued-room : Room sh s
-    queued-room = room-keeps (W .only .long) (B .ready .buffers .room)
-
-    pub queued-open : {u : ℕ} → h < n → u ≡ queueOf sh s h → Open sh sheet ch s u n
-    queued-open l i = record {
-      ready = same-ready sheet (W .only) (B .ready);
-      lists = same-lists sheet (W .only) (B .lists);
-      node = rw i (W .reach .node h l);
-      from = rw i (W .reach .seen h l);
-      reach = same-tables sheet (W .only) (λ x f. Reach x (keptOf ch) f (predOf sh s) (queueOf sh s) n) (W .reach);
-    }
-
-    pub queued-next :
-        {u n′ : ℕ} {s′ : List ℕ} → h < n → u ≡ queueOf sh s h → Scanned sh sheet ch s s′ u n n′ Every →
-        Queued sh sheet ch s₀ s′ n′ (h + 1)
-    queued-next {u} {n′} {s′} l i X =
-        let G = tables-same sheet (W .only) (λ x f. Grew x (keptOf ch) f (predOf sh s) (queueOf sh s) n (predOf sh s′) (queueOf sh s′) n′) (X .grew) in
-        let D = tables-same sheet (W .only) (λ x f. (e v : ℕ) → Every e → Arc x (keptOf ch) f e u v 0 → 0 < predOf sh s′ v) (X .done) in
-        record {
-          only = keeps-then (W .only) (X .only);
-          reach = G .reach;
-          begin = G .keep 0 (omega arith) ∙ W .begin;
-          high = omega (arith, G .grow);
-          done = λ j m e v A.
-              elim (ℕ-discrete j h) [
-                | yes k ↦ D e v (le-refl e) (rw (sym i) at (rw (ap (queueOf sh s′) k ∙ G .keep h l) at A))
-                | no k ↦ G .more v (W .done j (omega arith) e v (rw (G .keep j (omega (arith, W .high))) at A))
-              ];
-        }
-
-    pub queued-found : 0 < predOf sh s target → Searched sh sheet ch s₀ s (queueOf sh s₀ 0) target true
-    queued-found p = record {
-      only = W .only;
-      n = n;
-      reach = W .reach;
-      begin = W .begin;
-      found = λ e. p;
-      lost = λ e. absurd (wrong e);
-      closed = λ e. absurd (wrong e);
-    }
-      where
-        wrong : true ≡ false → ⊥
-        wrong e = let z : _≡_ {A = ℕ} 0 1 = cc in omega arith
-
-    pub queued-lost : predOf sh s target ≡ 0 → n ≤ h → Searched sh sheet ch s₀ s (queueOf sh s₀ 0) target false
-    queued-lost p l = record {
-      only = W .only;
-      n = n;
-      reach = W .reach;
-      begin = W .begin;
-      found = λ e. absurd (wrong e);
-      lost = λ e. p;
-      closed = λ r u m q e v A.
-          let w = W .reach .spot u m q in
-          W .done (w .0) (omega (arith, w .1)) e v (rw (sym (w .2)) at A);
-    }
-      where
-        wrong : false ≡ true → ⊥
-        wrong e = let z : _≡_ {A = ℕ} 0 1 = cc in omega arith
-
---------------------------------------------------------------------------------
--- Before the first turn
-
-pub cleared-none : {sh : Shape} {s : List ℕ} → Cleared sh s s 0
-cleared-none {sh} {s} = record { only = keeps-none; dark = λ v l. absurd (omega arith) }
-
-pub cleared-more : {sh : Shape} {s t r : List ℕ} {v : ℕ} → Cleared sh s t v → Put sh t r preds v 0 → Cleared sh s r (v + 1)
-cleared-more {sh} {s} {t} {r} {v} C P = record {
-  only = keeps-then (C .only) (put-keeps (omega arith) P);
-  dark = λ i h. ⊎-elim (λ w. w .1) (λ w. w .1 ∙ C .dark i (omega (arith, w .0))) (puts-at (P .puts) i);
-}
-
-pub begun :
-    {sh : Shape} {s t m r : List ℕ} {start x : ℕ} → Cleared sh s t (sh .groups + 2) → 0 < x →
-    Put sh t m preds start x → Put sh m r queues 0 start → Begun sh s r start
-begun {sh} {s} {t} {m} {r} {start} {x} C p P Q =
-    let q : predOf sh r ≡ predOf sh m = Q .rest preds (λ k. omega arith) in
-    record {
-      only =
-          keeps-then (C .only)
-          (keeps-then (put-keeps (omega arith) P) (put-keeps (omega arith) Q));
-      lit = rw q (omega (arith, P .puts .here));
-      dark = λ v h n. rw q (P .puts .else v n ∙ C .dark v h);
-      begin = Q .puts .here;
-    }
-
-module _ {sh : Shape} {sheet ch s s′ : List ℕ} {start target : ℕ} (Q : Asked sh sheet ch s start target) (B : Begun sh s s′ start) where
-  pub begun-seeded : Seeded sh sheet ch s′ target
-  begun-seeded = record {
-    ready = same-ready sheet (B .only) (Q .ready);
-    lists = same-lists sheet (B .only) (Q .lists);
-    node = Q .target-node;
-    reach = reach-first (residual sh sheet s′) (keptOf ch) (spareOf sh s′) (predOf sh s′) (queueOf sh s′) start (Q .start-node) (B .lit) (B .dark) (B .begin);
-  }
-
-  pub begun-searched : {s″ : List ℕ} {r : Bool} → Searched sh sheet ch s′ s″ (queueOf sh s′ 0) target r → Searched sh sheet ch s s″ start target r
-  begun-searched {s″} W = record {
-    only = keeps-then (B .only) (W .only);
-    n = W .n;
-    reach = tables-same sheet (B .only) (λ x f. Reach x (keptOf ch) f (predOf sh s″) (queueOf sh s″) (W .n)) (W .reach);
-    begin = W .begin ∙ B .begin;
-    found = W .found;
-    lost = W .lost;
-    closed = λ e u l p. tables-same sheet (B .only) (λ x f. Done x (keptOf ch) f (predOf sh s″) u) (W .closed e u l p);
-  }
+        {s′ : List ℕ} {k′ : ℕ} → j < sh .rows + sh .groups → Looked sh sheet ch s s′ u (arcAt (network sh s) j) k k′ →
+        AtItem sh sheet s′ u j
+    along-item l L = at-item l (keeps-then (A .scan .only) (L .only))

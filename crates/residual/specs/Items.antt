@@ -1,72 +1,120 @@
--- The items that hang at a node: its children j < groups, and its rows as groups + c. They are the numbers of the arcs between
--- the node and its children, and of its rows.
---   Hang d u j             item j hangs at node u
---   Least d u lo k         k is the least item from lo on that hangs at u, or groups + rows where there is none
---   Linked d first child card shop lo    the lists of the items from lo on: the first of each node, and the next one after each
---   Lists sh s             all lists stand in the buffer
---   Raw sh s               what linking asks: room, and a network that is formed
---   Hung sh s t k i u j    item j was put before the first one at u, which now stands in cell i of table k
---   LinkOf sh s t lo       from s to t the items from lo on were linked, and nothing else changed
---   Listed sh s t          from s to t all lists were built, and nothing else changed
+-- The items of a node, in lists: its rows and its children, the rows first. Item j < rows is row j, and item rows + v is child v. Only
+-- items of slack 0 are listed, so the lists are built anew where prices change; and a row leaves its lists when it is placed.
+--   arcAt d j              the arc of item j: down to the child, or the row
+--   Item r u j             item j hangs at node u and has slack 0
+--   ItemArc r u e          arc e is that of an item of node u, and no row that is placed
+--   Least r u lo k         k is the least item from lo on at u, or rows + groups where there is none
+--   Linked r first child card shop lo    the lists of the items from lo on: the first of each node, and the next one after each
+--   Links sh sheet s lo    those lists stand in the buffer
+--   Lists sh sheet s       the lists from the first free row on stand in the buffer
+--   Raw sh s               room, and a network that is formed
+--   Linkable sh sheet s    what linking asks: room, a network that is formed, and prices that can be added up
+--   Hung sh s t k i u j b  the first item at u was put in cell i of table k; where b is true, item j is the first one now
+--   LinkOf sh sheet s t lo from s to t the items from lo on were linked, and nothing else changed
+--   Listed sh sheet s t    from s to t all lists were built, and nothing else changed
 --   Emptied sh s t m       from s to t the lists of the nodes below m were emptied
+--   Dropped sh s t u c x   the first item at u is x where it was c; nothing else changed
+--   Placed sh sheet s t c  row c left its lists, and nothing else changed
 use mathlib.Core.Path.{_≡_}
-use mathlib.Core.Logic.{_⊎_}
+use mathlib.Core.Logic.{_⊎_, _≢_}
+use mathlib.Core.Bool.{Bool}
 use mathlib.Core.List.{List}
-use Prim.Native.Nat.{ℕ, _+_, _≤_, _<_}
+use Prim.Native.Nat.{ℕ, _+_, _-_, _≤_, _<_}
+use lib.Dec.{ltb}
 use lib.ListN.{length}
+use Rattle.theory.specs.Sum.{pick}
 use Rattle.theory.specs.Network.{Network, Formed}
+use Rattle.theory.specs.Residual.{Residual, dues}
 use Rattle.theory.specs.Turn.{Puts}
 use Rattle.residual.specs.declared.Shape.{Shape}
-use Rattle.residual.specs.Map.{table, firstOf, afterChildOf, afterCardOf, afterShopOf, firsts, Room, OnlyLists}
-use Rattle.residual.specs.State.{network}
+use Rattle.residual.specs.Map.{table, firstOf, afterChildOf, afterCardOf, afterShopOf, priceOf, firsts, Room, Keeps, OnlyLists}
+use Rattle.residual.specs.State.{network, residual, dearest}
 
-module _ (d : Network) where
-  pub record RowAt (u j : ℕ) : Type 0 where
-    pub c : ℕ
-    pub row : c < d .rows
-    pub code : j ≡ d .groups + c
-    pub at : (d .card c ≡ u) ⊎ (d .shop c ≡ u)
+abbrev pub arcAt : Network → ℕ → ℕ
+arcAt d j = pick (ltb j (d .rows)) (d .groups + j) (j - d .rows)
 
-  abbrev pub Hang : ℕ → ℕ → Type 0
-  Hang u j = ((j < d .groups) × (d .parent j ≡ u)) ⊎ RowAt u j
+module _ (r : Residual) where
+  pub record RowItem (u j : ℕ) : Type 0 where
+    pub row : j < r .net .rows
+    pub at : (r .net .card j ≡ u) ⊎ (r .net .shop j ≡ u)
+    pub even : dues r j ≡ r .weight j
+
+  pub record ChildItem (u j : ℕ) : Type 0 where
+    pub v : ℕ
+    pub group : v < r .net .groups
+    pub code : j ≡ r .net .rows + v
+    pub at : r .net .parent v ≡ u
+    pub even : r .price (r .net .parent v) ≡ r .price v
+
+  abbrev pub Item : ℕ → ℕ → Type 0
+  Item u j = RowItem u j ⊎ ChildItem u j
+
+  pub record ItemArc (u e : ℕ) : Type 0 where
+    pub j : ℕ
+    pub item : Item u j
+    pub live : r .free ≤ j
+    pub code : e ≡ arcAt (r .net) j
 
   pub record Least (u lo k : ℕ) : Type 0 where
     pub low : lo ≤ k
-    pub high : k ≤ d .groups + d .rows
-    pub hangs : k < d .groups + d .rows → Hang u k
-    pub none : (i : ℕ) → lo ≤ i → i < k → Hang u i → ⊥
+    pub high : k ≤ r .net .rows + r .net .groups
+    pub item : k < r .net .rows + r .net .groups → Item u k
+    pub none : (i : ℕ) → lo ≤ i → i < k → Item u i → ⊥
 
   pub record Linked (first child card shop : ℕ → ℕ) (lo : ℕ) : Type 0 where
-    pub at-first : (u : ℕ) → u < d .groups + 2 → Least u lo (first u)
-    pub at-child : (j : ℕ) → j < d .groups → lo ≤ j → Least (d .parent j) (j + 1) (child j)
-    pub at-card : (c : ℕ) → c < d .rows → lo ≤ d .groups + c → Least (d .card c) (d .groups + c + 1) (card c)
-    pub at-shop : (c : ℕ) → c < d .rows → lo ≤ d .groups + c → Least (d .shop c) (d .groups + c + 1) (shop c)
+    pub at-first : (u : ℕ) → u < r .net .groups + 2 → Least u lo (first u)
+    pub at-child :
+        (v : ℕ) → v < r .net .groups → lo ≤ r .net .rows + v → r .price (r .net .parent v) ≡ r .price v →
+        Least (r .net .parent v) (r .net .rows + v + 1) (child v)
+    pub at-card : (c : ℕ) → c < r .net .rows → lo ≤ c → dues r c ≡ r .weight c → Least (r .net .card c) (c + 1) (card c)
+    pub at-shop : (c : ℕ) → c < r .net .rows → lo ≤ c → dues r c ≡ r .weight c → Least (r .net .shop c) (c + 1) (shop c)
 
--- the lists of t over the network of s
+-- the lists of t over the residual network of s
+abbrev pub LinksOf : Shape → List ℕ → List ℕ → List ℕ → ℕ → Type 0
+LinksOf sh sheet s t lo =
+    Linked (residual sh sheet s) (firstOf sh t) (afterChildOf sh t) (afterCardOf sh t) (afterShopOf sh t) lo
+
 abbrev pub Links : Shape → List ℕ → List ℕ → ℕ → Type 0
-Links sh s t lo = Linked (network sh s) (firstOf sh t) (afterChildOf sh t) (afterCardOf sh t) (afterShopOf sh t) lo
+Links sh sheet s lo = LinksOf sh sheet s s lo
 
-abbrev pub Lists : Shape → List ℕ → Type 0
-Lists sh s = Links sh s s 0
+abbrev pub Lists : Shape → List ℕ → List ℕ → Type 0
+Lists sh sheet s = Links sh sheet s (sh .free)
 
 pub record Raw (sh : Shape) (s : List ℕ) : Type 0 where
   pub room : Room sh s
   pub formed : Formed (network sh s)
 
-pub record Hung (sh : Shape) (s t : List ℕ) (k i u j : ℕ) : Type 0 where
+pub record Linkable (sh : Shape) (sheet s : List ℕ) : Type 0 where
+  pub room : Room sh s
+  pub sheets : sh .groups ≤ length sheet
+  pub formed : Formed (network sh s)
+  pub small : (v : ℕ) → priceOf sh sheet v ≤ dearest
+  pub small-toll : sh .toll ≤ dearest
+
+pub record Hung (sh : Shape) (s t : List ℕ) (k i u j : ℕ) (b : Bool) : Type 0 where
   pub long : length t ≡ length s
   pub after : Puts (table sh s k) (table sh t k) i (firstOf sh s u)
-  pub first : Puts (firstOf sh s) (firstOf sh t) u j
+  pub first : Puts (firstOf sh s) (firstOf sh t) u (pick b j (firstOf sh s u))
   pub rest : (l : ℕ) → (l ≡ k → ⊥) → (l ≡ firsts → ⊥) → table sh t l ≡ table sh s l
 
-pub record LinkOf (sh : Shape) (s t : List ℕ) (lo : ℕ) : Type 0 where
+pub record LinkOf (sh : Shape) (sheet s t : List ℕ) (lo : ℕ) : Type 0 where
   pub only : OnlyLists sh s t
-  pub linked : Links sh s t lo
+  pub linked : LinksOf sh sheet s t lo
 
-pub record Listed (sh : Shape) (s t : List ℕ) : Type 0 where
+pub record Listed (sh : Shape) (sheet s t : List ℕ) : Type 0 where
   pub only : OnlyLists sh s t
-  pub lists : Lists sh t
+  pub lists : Links sh sheet t 0
 
 pub record Emptied (sh : Shape) (s t : List ℕ) (m : ℕ) : Type 0 where
   pub only : OnlyLists sh s t
-  pub none : (u : ℕ) → u < m → firstOf sh t u ≡ sh .groups + sh .rows
+  pub none : (u : ℕ) → u < m → firstOf sh t u ≡ sh .rows + sh .groups
+
+pub record Dropped (sh : Shape) (s t : List ℕ) (u c x : ℕ) : Type 0 where
+  pub only : Keeps sh (λ k. k ≡ firsts) s t
+  pub here :
+      ((firstOf sh s u ≡ c) × (firstOf sh t u ≡ x)) ⊎ ((firstOf sh s u ≢ c) × (firstOf sh t u ≡ firstOf sh s u))
+  pub else : (v : ℕ) → v ≢ u → firstOf sh t v ≡ firstOf sh s v
+
+pub record Placed (sh : Shape) (sheet s t : List ℕ) (c : ℕ) : Type 0 where
+  pub only : Keeps sh (λ k. k ≡ firsts) s t
+  pub lists : Links sh sheet t (c + 1)

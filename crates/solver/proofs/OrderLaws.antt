@@ -1,60 +1,111 @@
 -- Laws of the row order over the buffers.
---   stays-kept stays-dear stays-cut stays-shut    why row i may stay as it is: it is in; it costs more than it weighs; a closed
---                          set bars it, from a search now or from an earlier one
---   between-told left-told     what was read of row i
+--   order-unread           the row order, where tables change that the state does not read
+--   drop-filled drop-placing       row i leaves its lists, and nothing else changes
+--   parted-told            what was read of row i
+--   stays-kept stays-dear stays-cut stays-low    why row i may stay as it is: it is in; it costs more than it weighs; a closed set
+--                          bars it, as the nodes of a rank and above do
+--   stays-told             it is left out, and stays so where its two nodes are of different classes
+--   stays-any              by the three tests at once
+--   card-node              its card node is a node
 --   placed-still           row i stays as it is
 --   placed-start placed-then placed-all    before the first row, one step after another, and after the last row
 --   at-next                when the next row is to be placed
---   swapping-free placed-free    a swap is made under another first free row
---   swap-asked swap-path   what the search and the flip ask
+--   swapping-class placed-class    a swap is made under another first free row and label
+--   swap-asked swap-read swap-label swap-queued swap-found    what the search, the new label and the path ask
+--   swap-sought swap-sealed    what a look at the card node asks, and what it gives where no arc leads there
 --   swap-none swap-done    no rows make way, and row i goes in
 use mathlib.Core.Path.{_≡_, refl, sym, ap, subst, _∙_}
-use mathlib.Core.Bool.{Bool, true, false, true≢false}
+use mathlib.Core.Logic.{_≢_, inl, inr, ⊎-elim}
+use mathlib.Core.Bool.{Bool, not, _||_, true≢false}
 use mathlib.Core.List.{List}
-use Prim.Native.Nat.{ℕ, _+_, _<_}
+use Prim.Native.Nat.{ℕ, _+_, _*_, _-_, _≤_, _<_}
 use native.Mathlib.Nat.{le-refl}
+use native.Mathlib.Decide.{ℕ-discrete}
 use native.Mathlib.Omega.{arith}
 use lib.Dec.{eqb}
-use borrow.Author.Tests.{eqb-true}
-use Rattle.theory.specs.Incidence.{size}
+use borrow.Author.Tests.{eqb-true, eqb-false, eq-eqb, ne-eqb, not-true, not-false}
+use Rattle.theory.specs.Sum.{same}
 use Rattle.theory.specs.Level.{Level}
-use Rattle.theory.specs.Residual.{Residual, Cut, freed}
+use Rattle.theory.specs.Residual.{Residual, Arc, Cut, freed}
+use Rattle.theory.specs.Residual.Arc.{puts}
 use Rattle.theory.specs.Turn.{Flipped}
-use Rattle.theory.proofs.ResidualLaws.{card-below, shop-below}
-use Rattle.theory.proofs.CutLaws.{closed-freed, cut-freed}
+use Rattle.theory.specs.Class.{Sorted, split}
+use Rattle.theory.proofs.SumLaws.{same-eq, same-ne}
+use Rattle.theory.proofs.ResidualLaws.{card-below, shop-below, sides-apart}
+use Rattle.theory.proofs.CutLaws.{tail-node, head-node, arc-freed}
+use Rattle.theory.proofs.ClassLaws.{sorted-freed, sorted-cut, sorted-split, sorted-inside, sorted-put}
 use Rattle.theory.proofs.OrderLaws.{ordered-start, ordered-kept, ordered-dear, ordered-cut}
 use Rattle.residual.specs.declared.Shape.{Shape}
-use Rattle.residual.specs.Map.{Keeps, PutKept, cardNodes, shopNodes, predOf, spareOf, cardOf, shopOf, weightOf, priceOf, keptOf}
+use Rattle.residual.specs.Map.{span, Room, Keeps, OnlySearch, PutKept, labels, firsts, cardNodes, shopNodes, labelOf, predOf, spareOf, cardOf, shopOf, weightOf, priceOf, keptOf}
 use Rattle.residual.specs.View.{netOf, residualOf}
-use Rattle.residual.specs.Search.{Asked, Searched}
-use Rattle.residual.specs.Flip.{Path, Walked}
-use Rattle.solver.specs.State.{Working, withFree, limitOf, State, Filled}
+use Rattle.residual.specs.Items.{Links}
+use Rattle.residual.specs.Search.{Asked, Searched, Queued, Relabelled}
+use Rattle.residual.specs.Seal.{Sought, Sealed}
+use Rattle.residual.proofs.MapLaws.{keeps-more, keeps-then, room-keeps}
+use Rattle.solver.specs.State.{Working, OnlyMoves, withClass, limitOf, Filled}
 use Rattle.solver.specs.Fill.{rowPrice}
-use Rattle.solver.specs.Order.{InOrder, ClosedFrom, Paid, AtRow, Placed, Arranged, Between, LeftOut, Swapping}
-use Rattle.solver.proofs.StateLaws.{weight-keeps, level-toll, filled-change, filled-none, filled-then}
+use Rattle.solver.specs.Path.{Found, TurnedBack}
+use Rattle.solver.specs.Order.{InOrder, Classes, Paid, AtRow, Placing, Placed, Arranged, Parted, LeftOut, Staying, Swapping}
+use Rattle.solver.proofs.StateLaws.{weight-keeps, level-toll, filled-none, filled-then}
 use Rattle.solver.proofs.ReadyLaws.{state-ready, state-counts}
-use Rattle.solver.proofs.ShapeLaws.{lists-sized, state-free, filled-free}
-use Rattle.solver.proofs.MoveLaws.{lists-keeps, ordered-keeps, search-keeps, limits-search, searched-path, searched-cut, spare-keeps, cycle-filled, cycle-next}
+use Rattle.solver.proofs.ShapeLaws.{links-class, state-class, filled-class}
+use Rattle.solver.proofs.LabelLaws.{arc-in-class, pred-node}
+use Rattle.solver.proofs.MoveLaws.{residual-keeps, moves-keeps, lists-keeps, ordered-keeps, OnlyUnread, unread-search, unread-firsts, unread-keeps, spare-unread, limits-unread, state-unread, filled-unread, searched-reach, searched-found, searched-rest, searched-fresh, searched-start, searched-closed, cycle-filled, cycle-next}
+use Rattle.solver.proofs.PathLaws.{queued-reach, renamed-reach}
+use Rattle.solver.proofs.ClassLaws.{Split, ranked-same, ranked-split, sorted-equal, classes-of, classes-one, classes-ranked, classes-freed, classes-next, classes-rise, classes-same, classes-shape}
+
+--------------------------------------------------------------------------------
+-- Row i leaves its lists
+
+order-unread : {sh : Shape} {s t : List ℕ} → OnlyUnread sh s t → (ch : List ℕ) {j : ℕ} → InOrder sh ch s j → InOrder sh ch t j
+order-unread only ch O = ordered-keeps (unread-keeps only) ch ch (λ v l. limits-unread only ch v) O
+
+module _
+    {sh : Shape} {sheet ch s t : List ℕ} {i next : ℕ} (P : Placing sh sheet ch s i next)
+    (only : Keeps sh (λ k. k ≡ firsts) s t)
+  where
+    abbrev quiet : OnlyUnread sh s t
+    quiet = unread-firsts only
+
+    pub drop-filled : Filled sh sheet ch s ch t
+    drop-filled = filled-unread quiet (P .at .state)
+
+    pub drop-placing : Placing sh sheet ch t i next
+    drop-placing = record {
+      at = record {
+        state = state-unread quiet (P .at .state);
+        none = P .at .none;
+        row = P .at .row;
+        order = order-unread quiet ch (P .at .order);
+      };
+      classes =
+          classes-same (residual-keeps (unread-keeps quiet) sheet) (spare-unread quiet) (only .rest labels (λ e. omega arith))
+          (P .classes);
+    }
 
 --------------------------------------------------------------------------------
 -- Row i stays
 
-pub between-told :
-    {sh : Shape} {s : List ℕ} {i a b x y : ℕ} → b ≡ shopOf sh s i → x ≡ predOf sh s b → (x ≡ 0 → ⊥) → a ≡ cardOf sh s i →
-    y ≡ predOf sh s a → eqb y 0 ≡ true → Between sh s i
-between-told {sh} {s} {y = y} shop by some card none e = record {
-  shop = omega (arith, ap (predOf sh s) shop);
-  card = sym (ap (predOf sh s) card) ∙ sym none ∙ eqb-true y 0 e;
+pub parted-told :
+    {sh : Shape} {s : List ℕ} {i a b x y : ℕ} → a ≡ cardOf sh s i → b ≡ shopOf sh s i → x ≡ labelOf sh s a →
+    y ≡ labelOf sh s b → Parted sh s i (not (eqb x y))
+parted-told {sh} {s} {x = x} {y} card shop at-card at-shop = record {
+  yes = λ e same.
+      eqb-false x y (not-true (eqb x y) e)
+      (omega (arith, ap (labelOf sh s) card, ap (labelOf sh s) shop));
+  no = λ e.
+      omega (arith, ap (labelOf sh s) card, ap (labelOf sh s) shop, eqb-true x y (not-false (eqb x y) e));
 }
-
-pub left-told :
-    {sh : Shape} {sheet ch s : List ℕ} {i k p w : ℕ} → k ≡ keptOf ch i → p ≡ rowPrice sh sheet s i → w ≡ weightOf sh s i →
-    k ≡ 0 → p ≡ w → LeftOut sh sheet ch s i
-left-told kept price weight out even = record { out = omega arith; even = omega arith }
 
 module _ {sh : Shape} {sheet ch s : List ℕ} {i : ℕ} (A : AtRow sh sheet ch s i) where
   level : Level (netOf sh s) (limitOf sh ch s) (weightOf sh s) (priceOf sh sheet) 0 (keptOf ch)
-  level = level-toll (sym (A .paid .none)) (A .paid .state .level)
+  level = level-toll (sym (A .none)) (A .state .level)
+
+  pub card-node : cardOf sh s i < sh .groups + 2
+  card-node = omega (arith, card-below (netOf sh s) (A .state .formed) i (A .row))
+
+  shop-node : shopOf sh s i < sh .groups + 2
+  shop-node = omega (arith, shop-below (netOf sh s) (A .state .formed) i (A .row))
 
   pub stays-kept : (keptOf ch i ≡ 0 → ⊥) → InOrder sh ch s (i + 1)
   stays-kept kept =
@@ -65,96 +116,156 @@ module _ {sh : Shape} {sheet ch s : List ℕ} {i : ℕ} (A : AtRow sh sheet ch s
       {k p w : ℕ} → k ≡ keptOf ch i → p ≡ rowPrice sh sheet s i → w ≡ weightOf sh s i → k ≡ 0 → (p ≡ w → ⊥) →
       InOrder sh ch s (i + 1)
   stays-dear kept price weight out dear =
-      ordered-dear (netOf sh s) (A .paid .state .formed) (limitOf sh ch s) (weightOf sh s) (priceOf sh sheet) (keptOf ch) level i
+      ordered-dear (netOf sh s) (A .state .formed) (limitOf sh ch s) (weightOf sh s) (priceOf sh sheet) (keptOf ch) level i
       (A .row) (omega (arith, level .out i (A .row) (sym kept ∙ out))) (A .order)
 
-  pub stays-cut :
-      keptOf ch i ≡ 0 →
-      Cut (freed (residualOf sh sheet s) (i + 1)) (keptOf ch) (spareOf sh s) (predOf sh s) (shopOf sh s i) (cardOf sh s i) →
+  stays-cut :
+      (R : ℕ → ℕ) → keptOf ch i ≡ 0 →
+      Cut (freed (residualOf sh sheet s) (i + 1)) (keptOf ch) (spareOf sh s) R (shopOf sh s i) (cardOf sh s i) →
       InOrder sh ch s (i + 1)
-  stays-cut out C =
-      ordered-cut (freed (residualOf sh sheet s) (i + 1)) (A .paid .state .formed) (limitOf sh ch s) (keptOf ch) (spareOf sh s)
-      (predOf sh s) (A .paid .state .level) (state-counts sh ch s) (A .paid .none) i (A .row) refl C out (A .order)
+  stays-cut R out C =
+      ordered-cut (freed (residualOf sh sheet s) (i + 1)) (A .state .formed) (limitOf sh ch s) (keptOf ch) (spareOf sh s) R
+      (A .state .level) (state-counts sh ch s) (A .none) i (A .row) refl C out (A .order)
 
-  -- with one row less to turn
-  closed-next : ClosedFrom sh sheet ch s i → ClosedFrom sh sheet ch s (i + 1)
-  closed-next =
-      closed-freed (residualOf sh sheet s) (keptOf ch) (spareOf sh s) i (i + 1) (omega arith) (predOf sh s)
+  -- a rank that is lower at the card node than at the shop node
+  stays-low :
+      {rank : ℕ → ℕ} → Sorted (freed (residualOf sh sheet s) (i + 1)) (keptOf ch) (spareOf sh s) rank →
+      keptOf ch i ≡ 0 → rank (cardOf sh s i) < rank (shopOf sh s i) → InOrder sh ch s (i + 1)
+  stays-low {rank} sorted out less =
+      stays-cut (λ v. rank v + 1 - rank (shopOf sh s i)) out
+      (sorted-cut (freed (residualOf sh sheet s) (i + 1)) sorted (cardOf sh s i) (shopOf sh s i) less)
 
-  pub stays-shut : keptOf ch i ≡ 0 → ClosedFrom sh sheet ch s i → Between sh s i → InOrder sh ch s (i + 1)
-  stays-shut out C B = stays-cut out (record { closed = closed-next C; start = B .shop; target = B .card })
+  -- row i as an open arc
+  row-arc :
+      keptOf ch i ≡ 0 → rowPrice sh sheet s i ≡ weightOf sh s i →
+      Arc (freed (residualOf sh sheet s) i) (keptOf ch) (spareOf sh s) (sh .groups + i) (cardOf sh s i) (shopOf sh s i) 0
+  row-arc out even =
+      puts
+      (record {
+        c = i;
+        row = A .row;
+        live = le-refl i;
+        code = refl;
+        out = out;
+        tail = refl;
+        head = refl;
+        slack = omega (arith, A .none);
+      })
 
-  pub placed-still :
-      (shut : Bool) → (shut ≡ true → ClosedFrom sh sheet ch s i) → InOrder sh ch s (i + 1) →
-      Placed sh sheet ch s ch s (i + 1) shut
-  placed-still shut C O = record {
-    filled = filled-none sh sheet ch s (A .paid .state);
-    order = O;
-    closed = λ e. closed-next (C e);
-  }
+  module _ {next : ℕ} (C : Classes sh sheet ch s i next) where
+    stays-parted :
+        keptOf ch i ≡ 0 → rowPrice sh sheet s i ≡ weightOf sh s i →
+        labelOf sh s (cardOf sh s i) ≢ labelOf sh s (shopOf sh s i) → InOrder sh ch s (i + 1)
+    stays-parted out even other =
+        stays-low (classes-freed C (i + 1) (omega arith)) out
+        (classes-rise C (sh .groups + i) (cardOf sh s i) (shopOf sh s i) card-node shop-node (row-arc out even) other)
 
-  pub swapping-free : (m : ℕ) → m ≡ i + 1 → LeftOut sh sheet ch s i → Swapping (withFree sh m) sheet ch s i
-  unfolding limitOf
-  swapping-free m e L = record {
-    at = record {
-      paid = record {
-        state = state-free sh m (A .paid .state);
-        lists = lists-sized sh m (sh .toll) s (A .paid .lists);
-        none = A .paid .none;
+    pub stays-told :
+        {k p w : ℕ} → k ≡ keptOf ch i → p ≡ rowPrice sh sheet s i → w ≡ weightOf sh s i → k ≡ 0 → p ≡ w → {r : Bool} →
+        Parted sh s i r → Staying sh sheet ch s i r
+    stays-told kept price weight out even D = record {
+      yes = λ e. stays-parted (omega arith) (omega arith) (D .yes e);
+      no = λ e. record { out = omega arith; even = omega arith; one = D .no e };
+    }
+
+    -- by the three tests at once
+    pub stays-any :
+        {k p w : ℕ} → k ≡ keptOf ch i → p ≡ rowPrice sh sheet s i → w ≡ weightOf sh s i → {r : Bool} → Parted sh s i r →
+        Staying sh sheet ch s i ((not (eqb k 0) || not (eqb p w)) || r)
+    stays-any {k} {p} {w} kept price weight D =
+        elim (ℕ-discrete k 0) [
+          | no n ↦
+              rw (ne-eqb k 0 n)
+              (record { yes = λ e. stays-kept (λ z. n (kept ∙ z)); no = λ e. absurd (true≢false e) })
+          | yes out ↦
+              rw (eq-eqb k 0 out)
+              (elim (ℕ-discrete p w) [
+                | no n ↦
+                    rw (ne-eqb p w n)
+                    (record { yes = λ e. stays-dear kept price weight out n; no = λ e. absurd (true≢false e) })
+                | yes even ↦ rw (eq-eqb p w even) (stays-told kept price weight out even D)
+              ])
+        ]
+
+    pub placed-still : Links sh sheet s (i + 1) → InOrder sh ch s (i + 1) → Placed sh sheet ch s ch s (i + 1) next
+    placed-still lists O = record {
+      filled = filled-none sh sheet ch s (A .state);
+      lists = lists;
+      order = O;
+      classes = classes-next C;
+    }
+
+    -- the label of a class leaves room for the arcs
+    class-low : (v : ℕ) → v < sh .groups + 2 → labelOf sh s v + span ≤ 4294967296
+    class-low v l =
+        let k = C .named v l in
+        omega (arith, k .1, k .2, C .few, A .row, A .state .room .few .rows)
+
+    pub swapping-class :
+        {a b : ℕ} (m x : ℕ) → a ≡ cardOf sh s i → b ≡ shopOf sh s i → m ≡ i + 1 → x ≡ labelOf sh s a →
+        Links sh sheet s (i + 1) → LeftOut sh sheet ch s i → Swapping (withClass sh m x) sheet ch s i a b next
+    unfolding limitOf
+    swapping-class {a} {b} m x card shop above mine lists L = record {
+      placing = record {
+        at = record {
+          state = state-class sh m x (omega (arith, ap (labelOf sh s) card, class-low (cardOf sh s i) card-node)) (A .state);
+          none = A .none;
+          row = A .row;
+          order = A .order;
+        };
+        classes = classes-shape sh m x C;
       };
-      row = A .row;
-      order = A .order;
-    };
-    left = record { out = L .out; even = L .even };
-    above = e;
-  }
+      left = record { out = L .out; even = L .even; one = L .one };
+      lists = links-class sh m x sheet s (subst (λ (lo : ℕ). Links sh sheet s lo) (sym above) lists);
+      above = above;
+      card = card;
+      shop = shop;
+      mine = sym mine;
+    }
 
--- back from another first free row
-pub placed-free :
-    (sh : Shape) (m : ℕ) {sheet ch s ch′ s′ : List ℕ} {i : ℕ} {shut : Bool} →
-    Placed (withFree sh m) sheet ch s ch′ s′ i shut → Placed sh sheet ch s ch′ s′ i shut
+-- back from another first free row and label
+pub placed-class :
+    (sh : Shape) (m x : ℕ) {sheet ch s ch′ s′ : List ℕ} {i next : ℕ} → sh .fresh + span ≤ 4294967296 →
+    Placed (withClass sh m x) sheet ch s ch′ s′ i next → Placed sh sheet ch s ch′ s′ i next
 unfolding limitOf
-placed-free sh m P = record { filled = filled-free (P .filled); order = P .order; closed = P .closed }
+placed-class sh m x {sheet} {s′ = s′} low P = record {
+  filled = filled-class low (P .filled);
+  lists = links-class (withClass sh m x) (sh .free) (sh .fresh) sheet s′ (P .lists);
+  order = P .order;
+  classes = classes-shape (withClass sh m x) (sh .free) (sh .fresh) (P .classes);
+}
 
-pub placed-start : {sh : Shape} {sheet ch s : List ℕ} → State sh sheet ch s → Placed sh sheet ch s ch s 0 false
-placed-start {sh} {sheet} {ch} {s} state = record {
-  filled = filled-none sh sheet ch s state;
+pub placed-start : {sh : Shape} {sheet ch s : List ℕ} → Paid sh sheet ch s → Placed sh sheet ch s ch s 0 1
+placed-start {sh} {sheet} {ch} {s} P = record {
+  filled = filled-none sh sheet ch s (P .state);
+  lists = P .lists;
   order = ordered-start (netOf sh s) (limitOf sh ch s) (weightOf sh s) (keptOf ch);
-  closed = λ q. absurd (true≢false (sym q));
+  classes = classes-one (P .one);
 }
 
 module _ {sh : Shape} {sheet ch s ch′ s′ : List ℕ} (F : Filled sh sheet ch s ch′ s′) where
   pub placed-then :
-      {ch″ s″ : List ℕ} {i : ℕ} {shut : Bool} → Placed sh sheet ch′ s′ ch″ s″ i shut → Placed sh sheet ch s ch″ s″ i shut
+      {ch″ s″ : List ℕ} {i next : ℕ} → Placed sh sheet ch′ s′ ch″ s″ i next → Placed sh sheet ch s ch″ s″ i next
   placed-then {ch″} {s″} P = record {
     filled = filled-then sh sheet ch s ch′ s′ ch″ s″ F (P .filled);
+    lists = P .lists;
     order = P .order;
-    closed = P .closed;
+    classes = P .classes;
   }
 
-  pub at-next :
-      {i : ℕ} → Paid sh sheet ch s → i < sh .rows → InOrder sh ch′ s′ i → AtRow sh sheet ch′ s′ i
-  at-next P l O = record {
-    paid = record { state = F .state; lists = lists-keeps (F .keeps) (P .lists); none = P .none };
-    row = l;
-    order = O;
-  }
+  pub at-next : {i : ℕ} → sh .toll ≡ 0 → i < sh .rows → InOrder sh ch′ s′ i → AtRow sh sheet ch′ s′ i
+  at-next none l O = record { state = F .state; none = none; row = l; order = O }
 
 pub placed-all :
-    {sh : Shape} {sheet ch s ch′ s′ : List ℕ} {i : ℕ} {shut : Bool} → Placed sh sheet ch s ch′ s′ i shut → i ≡ sh .rows →
+    {sh : Shape} {sheet ch s ch′ s′ : List ℕ} {i next : ℕ} → Placed sh sheet ch s ch′ s′ i next → i ≡ sh .rows →
     Arranged sh sheet ch s ch′ s′
 placed-all {sh} {ch′ = ch′} {s′} P e = record {
   filled = P .filled;
   order = subst (λ (k : ℕ). InOrder sh ch′ s′ k) e (P .order);
-  closed = λ q. absurd (true≢false (sym q));
 }
 
 --------------------------------------------------------------------------------
 -- A swap
-
--- facts of two nodes that are others by name
-cut-ends : {r : Residual} {S f R : ℕ → ℕ} {a a′ b b′ : ℕ} → b′ ≡ b → a′ ≡ a → Cut r S f R b a → Cut r S f R b′ a′
-cut-ends p q C = rw (p, q) C
 
 flipped-ends :
     {r : Residual} {S f S′ f′ : ℕ → ℕ} {a a′ b b′ : ℕ} → b′ ≡ b → a′ ≡ a → Flipped r S f S′ f′ b a → Flipped r S f S′ f′ b′ a′
@@ -167,90 +278,219 @@ module _ {sh : Shape} {s t : List ℕ} (K : Keeps sh Working s t) (i : ℕ) wher
   shop-keeps : shopOf sh t i ≡ shopOf sh s i
   shop-keeps = ap (λ (f : ℕ → ℕ). f i) (K .rest shopNodes (λ p. omega arith))
 
-  left-keeps : {sheet ch : List ℕ} → LeftOut sh sheet ch s i → LeftOut sh sheet ch t i
-  left-keeps {sheet} L = record {
-    out = L .out;
-    even =
-        omega (
-          arith,
-          L .even,
-          ap (priceOf sh sheet) card-keeps,
-          ap (priceOf sh sheet) shop-keeps,
-          ap (λ (f : ℕ → ℕ). f i) (weight-keeps K),
-        );
+  paid-keeps :
+      (sheet : List ℕ) → sh .toll ≡ 0 → rowPrice sh sheet s i ≡ weightOf sh s i →
+      rowPrice sh sheet t i + sh .toll ≡ weightOf sh t i
+  paid-keeps sheet none even =
+      omega (
+        arith,
+        ap (priceOf sh sheet) card-keeps,
+        ap (priceOf sh sheet) shop-keeps,
+        ap (λ (f : ℕ → ℕ). f i) (weight-keeps K),
+      )
+
+module _ {sh : Shape} {sheet ch s : List ℕ} {i a b next : ℕ} (W : Swapping sh sheet ch s i a b next) where
+  abbrev at : AtRow sh sheet ch s i
+  at = W .placing .at
+
+  abbrev classes : Classes sh sheet ch s i next
+  classes = W .placing .classes
+
+  a-node : a < sh .groups + 2
+  a-node = omega (arith, W .card, card-node at)
+
+  b-node : b < sh .groups + 2
+  b-node = omega (arith, W .shop, shop-node at)
+
+  b-fresh : labelOf sh s b ≡ sh .fresh
+  b-fresh = ap (labelOf sh s) (W .shop) ∙ sym (W .left .one) ∙ sym (ap (labelOf sh s) (W .card)) ∙ W .mine
+
+  dark : (v : ℕ) → v < sh .groups + 2 → predOf sh s v ≡ 0
+  dark v l =
+      let j = classes .named a a-node in
+      let k = classes .named v l in
+      arc-in-class (sh .fresh) (labelOf sh s v) (j .0) (k .0) (sym (W .mine) ∙ j .1) (k .1)
+
+  pub swap-asked : Asked sh sheet ch s b a
+  swap-asked = record {
+    ready = state-ready (at .state);
+    free = omega (arith, W .above, at .row);
+    lists = W .lists;
+    start-node = b-node;
+    target-node = a-node;
+    start-fresh = b-fresh;
+    target-fresh = W .mine;
+    dark = dark;
   }
 
-module _
-    {sh : Shape} {sheet ch s : List ℕ} {i : ℕ} (W : Swapping sh sheet ch s i) {a b : ℕ} (card : a ≡ cardOf sh s i)
-    (shop : b ≡ shopOf sh s i)
-  where
-    pub swap-asked : Asked sh sheet ch s b a
-    swap-asked = record {
-      ready = state-ready (W .at .paid .state);
-      lists = W .at .paid .lists;
-      start-node = omega (arith, shop-below (netOf sh s) (W .at .paid .state .formed) i (W .at .row));
-      target-node = omega (arith, card-below (netOf sh s) (W .at .paid .state .formed) i (W .at .row));
-    }
+  pub swap-sought : Sought sh sheet ch s a
+  swap-sought = record {
+    ready = state-ready (at .state);
+    free = omega (arith, W .above, at .row);
+    lists = W .lists;
+    card = rw (W .card) (at .state .formed .card-node i (at .row));
+  }
 
-    module _ {t : List ℕ} {r : Bool} (X : Searched sh sheet ch s t b a r) where
-      keeps : Keeps sh Working s t
-      keeps = search-keeps (X .only)
+  -- no arc leads to the card node, so all other nodes are a closed set
+  pub swap-sealed : Sealed sh sheet ch s a → Placed sh sheet ch s ch s (i + 1) next
+  swap-sealed S =
+      placed-still at classes (subst (λ (lo : ℕ). Links sh sheet s lo) (W .above) (W .lists))
+      (stays-cut at (λ v. 1 - same a v) (W .left .out)
+      (record {
+        closed = λ e u v A l.
+            elim (ℕ-discrete v a) [
+              | yes z ↦
+                  absurd
+                  (S e u
+                  (rw z at
+                  (arc-freed (residualOf sh sheet s) (keptOf ch) (spareOf sh s) (sh .free) (i + 1) (omega (arith, W .above)) e u v 0 A)))
+              | no n ↦ omega (arith, same-ne a v (λ z. n (sym z)))
+            ];
+        start =
+            omega (
+              arith,
+              same-ne a (shopOf sh s i) (λ z. sides-apart (netOf sh s) (at .state .formed) i (at .row) (sym z ∙ W .card)),
+            );
+        target = omega (arith, same-eq a (cardOf sh s i) (W .card));
+      }))
 
-      filled : Filled sh sheet ch s ch t
-      filled =
-          filled-change sh sheet ch s ch t (W .at .paid .state) keeps refl (λ v l. limits-search (X .only) ch v)
-          (W .at .paid .state .level) (le-refl (size (sh .rows) (keptOf ch)))
+  -- the label of the next class
+  pub swap-label : span * next < 4294967296
+  swap-label = omega (arith, classes .few, at .row, at .state .room .few .rows)
 
-      searched : AtRow sh sheet ch t i
-      searched =
-          at-next filled (W .at .paid) (W .at .row)
-          (ordered-keeps keeps ch ch (λ v l. limits-search (X .only) ch v) (W .at .order))
+  -- the lists of the rows above row i, where they stay
+  lists-above : {t : List ℕ} → OnlyMoves sh s t → Links sh sheet t (i + 1)
+  lists-above {t} K = subst (λ (lo : ℕ). Links sh sheet t lo) (W .above) (lists-keeps K sheet (W .lists))
 
-      left : LeftOut sh sheet ch t i
-      left = left-keeps keeps i (W .left)
+  module _ {t : List ℕ} {n : ℕ} (X : Searched sh sheet ch s t b a n) where
+    quiet-search : OnlyUnread sh s t
+    quiet-search = unread-search (X .only)
 
-      -- the search went from row i's shop node to its card node
-      from : shopOf sh t i ≡ b
-      from = shop-keeps keeps i ∙ sym shop
+    keeps : Keeps sh Working s t
+    keeps = unread-keeps quiet-search
 
-      to : cardOf sh t i ≡ a
-      to = card-keeps keeps i ∙ sym card
+    -- the reached nodes are of one class
+    reached-fresh : (v : ℕ) → v < sh .groups + 2 → 0 < predOf sh t v → labelOf sh s v ≡ sh .fresh
+    reached-fresh v l some = searched-fresh X v (dark v l) some
 
-      pub swap-none : r ≡ false → Placed sh sheet ch s ch t (i + 1) true
-      swap-none lost = record {
-        filled = filled;
-        order = stays-cut searched (left .out) (cut-ends from to cut);
-        closed = λ e. cut .closed;
+    -- the classes where the rows from the first free row on may be turned
+    sorted : Sorted (residualOf sh sheet s) (keptOf ch) (spareOf sh s) (classes .rank)
+    sorted = classes-freed classes (sh .free) (omega (arith, W .above))
+
+    pub swap-read : Room sh t × (a < sh .groups + 2)
+    swap-read = (room-keeps (X .only .long) (at .state .room), a-node)
+
+    pub swap-queued : Queued sh t n
+    swap-queued = queued-reach sh sheet ch t (searched-reach X) refl (swap-read .0)
+
+    pub swap-found : 0 < predOf sh t a → Found sh sheet ch t b a n
+    swap-found = searched-found X (at .state) a-node
+
+    module _ (lost : predOf sh t a ≡ 0) {t′ : List ℕ} (L : Relabelled sh t t′ n (span * next)) where
+      -- no open arc within a class leaves the reached nodes
+      inner :
+          (e u v : ℕ) → Arc (residualOf sh sheet s) (keptOf ch) (spareOf sh s) e u v 0 → 0 < predOf sh t u →
+          classes .rank v ≡ classes .rank u → 0 < predOf sh t v
+      inner e u v A from same =
+          let l = tail-node (residualOf sh sheet s) (keptOf ch) (spareOf sh s) (at .state .formed) e u v 0 A in
+          let m = head-node (residualOf sh sheet s) (keptOf ch) (spareOf sh s) (at .state .formed) e u v 0 A in
+          searched-closed X lost e u v l A from (classes .apart v u m l same ∙ reached-fresh u l from)
+
+      finer :
+          Sorted (freed (residualOf sh sheet s) (i + 1)) (keptOf ch) (spareOf sh s) (split (classes .rank) (predOf sh t))
+      finer =
+          sorted-freed (residualOf sh sheet s) (keptOf ch) (spareOf sh s) (sh .free) (i + 1) (omega (arith, W .above))
+          (sorted-split (residualOf sh sheet s) sorted (predOf sh t) inner)
+
+      less : split (classes .rank) (predOf sh t) a < split (classes .rank) (predOf sh t) b
+      less =
+          omega (
+            arith,
+            lost,
+            searched-start X,
+            classes .alike a b a-node b-node (W .mine ∙ sym b-fresh),
+          )
+
+      only : OnlySearch sh s t′
+      only = keeps-then (X .only) (keeps-more (λ l e. omega arith) (L .only))
+
+      quiet-labels : OnlyUnread sh s t′
+      quiet-labels = unread-search only
+
+      order : InOrder sh ch s (i + 1)
+      order =
+          stays-low at finer (W .left .out)
+          (omega (
+            arith,
+            less,
+            ap (split (classes .rank) (predOf sh t)) (W .card),
+            ap (split (classes .rank) (predOf sh t)) (W .shop),
+          ))
+
+      splits :
+          (v : ℕ) → v < sh .groups + 2 →
+          Split (labelOf sh s) (labelOf sh t′) (predOf sh t) (sh .fresh) (span * next) v
+      splits v l =
+          ⊎-elim (λ h. inl (h .0, (reached-fresh v l (h .0), h .1)))
+          (λ h. inr (h .0, h .1 ∙ searched-rest X v (h .0)))
+          (renamed-reach sh sheet ch t (searched-reach X) refl refl L v l)
+
+      pub swap-none : Placed sh sheet ch s ch t′ (i + 1) (next + 1)
+      swap-none = record {
+        filled = filled-unread quiet-labels (at .state);
+        lists = lists-above (keeps-more (λ l p. omega arith) only);
+        order = order-unread quiet-labels ch order;
+        classes =
+            classes-of (omega (arith, classes .few))
+            (sorted-equal (ap (λ (r : Residual). freed r (i + 1)) (residual-keeps (unread-keeps quiet-labels) sheet))
+            (spare-unread quiet-labels) finer)
+            (ranked-split (classes-ranked classes) splits);
       }
-        where
-          cut : Cut (freed (residualOf sh sheet t) (i + 1)) (keptOf ch) (spareOf sh t) (predOf sh t) b a
-          cut =
-              cut-freed (residualOf sh sheet t) (keptOf ch) (spareOf sh t) (sh .free) (i + 1) (omega (arith, W .above))
-              (predOf sh t) b a (searched-cut X (W .at .paid .state .formed) lost)
 
-      pub swap-path : r ≡ true → Path sh sheet ch t b a
-      swap-path = searched-path X (W .at .paid .state) (swap-asked .target-node)
-
-      module _ {ch′ t′ ch″ : List ℕ} (F : Walked sh sheet ch t ch′ t′ b a) (put : PutKept ch′ ch″ i 1) where
-        walk : Keeps sh Working t t′
-        walk = spare-keeps (F .only)
+    module _
+        {ch′ t′ ch″ : List ℕ} (T : TurnedBack sh sheet ch t ch′ t′ b a) (put : PutKept ch′ ch″ i 1)
+      where
+        filled : Filled sh sheet ch s ch t
+        filled = filled-unread quiet-search (at .state)
 
         cycle :
             Flipped (residualOf sh sheet t) (keptOf ch) (spareOf sh t) (keptOf ch′) (spareOf sh t′) (shopOf sh t i)
             (cardOf sh t i)
-        cycle = flipped-ends from to (F .flip)
+        cycle = flipped-ends (shop-keeps keeps i ∙ sym (W .shop)) (card-keeps keeps i ∙ sym (W .card)) (T .flip)
 
-        even : rowPrice sh sheet t i + sh .toll ≡ weightOf sh t i
-        even = omega (arith, left .even, W .at .paid .none)
+        -- the reached nodes had the label that they have again
+        names : (v : ℕ) → v < sh .groups + 2 → labelOf sh t′ v ≡ labelOf sh s v
+        names v l =
+            ⊎-elim (λ h. h .1 ∙ sym (reached-fresh v l (h .0))) (λ h. h .1 ∙ searched-rest X v (h .0)) (T .labels v l)
 
-        pub swap-done : Placed sh sheet ch s ch″ t′ (i + 1) false
+        one : (u v : ℕ) → 0 < predOf sh t u → 0 < predOf sh t v → classes .rank u ≡ classes .rank v
+        one u v p q =
+            let l = pred-node sh t u p in
+            let m = pred-node sh t v q in
+            classes .alike u v l m (reached-fresh u l p ∙ sym (reached-fresh v m q))
+
+        turned : Sorted (residualOf sh sheet t) (keptOf ch″) (spareOf sh t′) (classes .rank)
+        turned =
+            sorted-put (residualOf sh sheet t)
+            (sorted-inside (residualOf sh sheet t)
+            (sorted-equal (residual-keeps keeps sheet) (spare-unread quiet-search) sorted) (predOf sh t)
+            (T .inside) one)
+            i (omega (arith, W .above)) (put .puts .else)
+
+        pub swap-done : Placed sh sheet ch s ch″ t′ (i + 1) next
         swap-done =
             placed-then filled
             (record {
               filled =
-                  cycle-filled (searched .paid .state) walk ch′ (F .long) i (W .at .row) (W .above) (left .out) even cycle ch″ put;
+                  cycle-filled (filled .state) (moves-keeps (T .only)) ch′ (T .long) i (at .row) (W .above) (W .left .out)
+                  (paid-keeps keeps i sheet (at .none) (W .left .even)) cycle ch″ put;
+              lists = lists-above (keeps-then (keeps-more (λ l p. omega arith) (X .only)) (T .only));
               order =
-                  cycle-next (searched .paid .state) walk ch′ (F .long) i (W .at .row) (W .above) (left .out) even cycle ch″ put
-                  (W .at .paid .none) (searched .order);
-              closed = λ q. absurd (true≢false (sym q));
+                  cycle-next (filled .state) (moves-keeps (T .only)) ch′ (T .long) i (at .row) (W .above) (W .left .out)
+                  (paid-keeps keeps i sheet (at .none) (W .left .even)) cycle ch″ put (at .none) (order-unread quiet-search ch (at .order));
+              classes =
+                  classes-of (omega (arith, classes .few))
+                  (sorted-freed (residualOf sh sheet t′) (keptOf ch″) (spareOf sh t′) (sh .free) (i + 1)
+                  (omega (arith, W .above)) (sorted-equal (residual-keeps (moves-keeps (T .only)) sheet) refl turned))
+                  (ranked-same (classes-ranked classes) names);
             })

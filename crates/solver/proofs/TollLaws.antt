@@ -1,34 +1,61 @@
 -- Laws of lowering the toll.
+--   renamed-fresh fresh-kept     every node is fresh: where the reached ones are made so, and where the labels stay
 --   lowered-none lowered-then    no turn, and more turns after some
 --   lowered-running              the next turn may begin
---   moved-search                 a search before a turn changes nothing that counts
+--   running-asked                what its search asks
+--   searched-failed              what the end of the turn asks, where the search failed
+--   moved-unread                 what the state does not read may change before a turn
 --   moved-path                   a turn whose search found the sink: one row more is kept
+--   stepped-state linked-state   the state at the lower toll, when all nodes are fresh again, and when the lists are built
 --   moved-step                   a turn whose search failed: the toll falls, and then rows may be kept
-use mathlib.Core.Path.{_≡_, refl, _∙_}
-use mathlib.Core.Bool.{Bool}
+use mathlib.Core.Path.{_≡_, refl, sym, ap, subst, _∙_}
+use mathlib.Core.Logic.{⊎-elim}
 use mathlib.Core.List.{List}
 use Prim.Native.Nat.{ℕ, _+_, _-_, _≤_, _<_}
 use native.Mathlib.Omega.{arith}
 use Rattle.theory.specs.Incidence.{size}
 use Rattle.theory.proofs.SumLaws.{sum-le, sum-one}
 use Rattle.residual.specs.declared.Shape.{Shape}
-use Rattle.residual.specs.Map.{keptOf, OnlySearch}
-use Rattle.residual.specs.Search.{Searched}
-use Rattle.residual.specs.Flip.{Walked}
-use Rattle.residual.proofs.MapLaws.{keeps-none, keeps-then}
-use Rattle.solver.specs.State.{withToll, limitOf, State, Filled}
+use Rattle.residual.specs.Map.{labels, labelOf, predOf, keptOf}
+use Rattle.residual.specs.Items.{Links, Lists, Listed}
+use Rattle.residual.specs.Search.{Asked, Searched, Relabelled}
+use Rattle.residual.proofs.MapLaws.{keeps-none, keeps-then, keeps-more}
+use Rattle.solver.specs.State.{OnlyMoves, withToll, AllFresh, limitOf, State}
+use Rattle.solver.specs.Fill.{Added}
+use Rattle.solver.specs.Path.{Renamed, TurnedBack}
 use Rattle.solver.specs.Step.{Stepped}
-use Rattle.solver.specs.Toll.{Running, Lowered, Moved}
-use Rattle.solver.proofs.ReadyLaws.{state-toll}
-use Rattle.solver.proofs.ShapeLaws.{keeps-sized, lists-sized}
-use Rattle.solver.proofs.MoveLaws.{lists-keeps, search-keeps, limits-search, state-search, spare-keeps, path-filled, path-more}
+use Rattle.solver.specs.Toll.{Running, Failed, Lowered, Moved}
+use Rattle.solver.proofs.PlaceLaws.{added-labels}
+use Rattle.solver.proofs.ReadyLaws.{state-ready, state-toll}
+use Rattle.solver.proofs.ShapeLaws.{keeps-sized}
+use Rattle.solver.proofs.LabelLaws.{arc-in-same}
+use Rattle.solver.proofs.MoveLaws.{lists-keeps, moves-keeps, OnlyUnread, unread-labels, unread-search, unread-lists, unread-keeps, limits-unread, state-unread, searched-reach, searched-rest, searched-cut, path-filled, path-more}
+use Rattle.solver.proofs.PathLaws.{renamed-reach}
 
-pub lowered-none : {sh : Shape} {sheet ch s : List ℕ} → State sh sheet ch s → Lowered sh sheet ch s (sh .toll) sheet ch s
-lowered-none {sh} {sheet} {ch} {s} I = record {
+--------------------------------------------------------------------------------
+-- Every node is fresh
+
+pub renamed-fresh :
+    (sh : Shape) (s t : List ℕ) → ((v : ℕ) → v < sh .groups + 2 → predOf sh s v ≡ 0 → labelOf sh s v ≡ sh .fresh) →
+    Renamed sh s t (sh .fresh) → AllFresh sh t
+renamed-fresh sh s t rest A v l = ⊎-elim (λ h. h .1) (λ h. h .1 ∙ rest v l (h .0)) (A v l)
+
+pub fresh-kept : (sh : Shape) (s t : List ℕ) → labelOf sh t ≡ labelOf sh s → AllFresh sh s → AllFresh sh t
+fresh-kept sh s t e F v l = ap (λ (f : ℕ → ℕ). f v) e ∙ F v l
+
+--------------------------------------------------------------------------------
+-- Turn after turn
+
+pub lowered-none :
+    {sh : Shape} {sheet ch s : List ℕ} → State sh sheet ch s → Lists sh sheet s → AllFresh sh s →
+    Lowered sh sheet ch s (sh .toll) sheet ch s
+lowered-none {sh} {sheet} {ch} {s} I L F = record {
   state = state-toll sh ch s (sh .toll) sheet sheet I refl (I .level) (I .range);
+  lists = L;
   keeps = keeps-none;
   limits = λ v l. refl;
   range = λ top h. h;
+  fresh = F;
 }
 
 module _ {sh : Shape} {sheet ch s : List ℕ} {toll : ℕ} {sheet′ ch′ s′ : List ℕ} (A : Lowered sh sheet ch s toll sheet′ ch′ s′) where
@@ -38,30 +65,69 @@ module _ {sh : Shape} {sheet ch s : List ℕ} {toll : ℕ} {sheet′ ch′ s′ 
   unfolding limitOf
   lowered-then B = record {
     state = B .state;
-    keeps = keeps-then (A .keeps) (keeps-sized (withToll sh toll) (sh .free) (sh .toll) (B .keeps));
+    lists = B .lists;
+    keeps = keeps-then (A .keeps) (keeps-sized (withToll sh toll) (sh .free) (sh .toll) (sh .fresh) (B .keeps));
     limits = λ v l. B .limits v l ∙ A .limits v l;
     range = λ top h. B .range top (A .range top h);
+    fresh = B .fresh;
   }
 
   pub lowered-running : Running sh sheet ch s → Running (withToll sh toll) sheet′ ch′ s′
   lowered-running R = record {
     state = A .state;
-    lists = lists-sized sh (sh .free) toll s′ (lists-keeps (A .keeps) (R .lists));
+    lists = A .lists;
     all = R .all;
+    fresh = A .fresh;
   }
 
-pub moved-search :
-    {sh : Shape} {sheet ch s t : List ℕ} {toll : ℕ} {sheet′ ch′ s′ : List ℕ} → OnlySearch sh s t →
+--------------------------------------------------------------------------------
+-- The search
+
+module _ {sh : Shape} {sheet ch s : List ℕ} (R : Running sh sheet ch s) where
+  pub running-asked : Asked sh sheet ch s (sh .groups) (sh .groups + 1)
+  running-asked = record {
+    ready = state-ready (R .state);
+    free = omega (arith, R .all);
+    lists = R .lists;
+    start-node = omega arith;
+    target-node = omega arith;
+    start-fresh = R .fresh (sh .groups) (omega arith);
+    target-fresh = R .fresh (sh .groups + 1) (omega arith);
+    dark = λ v l. arc-in-same (sh .fresh) (labelOf sh s v) (R .fresh v l);
+  }
+
+  module _ {t : List ℕ} {n : ℕ} (X : Searched sh sheet ch s t (sh .groups) (sh .groups + 1) n) where
+    rest-fresh : (v : ℕ) → v < sh .groups + 2 → predOf sh t v ≡ 0 → labelOf sh t v ≡ sh .fresh
+    rest-fresh v l none = searched-rest X v none ∙ R .fresh v l
+
+    pub searched-failed : predOf sh t (sh .groups + 1) ≡ 0 → Failed sh sheet ch t n
+    searched-failed lost = record {
+      cut = record {
+        state = state-unread (unread-search (X .only)) (R .state);
+        all = R .all;
+        cut = searched-cut X (R .state .formed) (R .fresh) lost;
+      };
+      reach = searched-reach X;
+      rest = rest-fresh;
+    }
+
+pub moved-unread :
+    {sh : Shape} {sheet ch s t : List ℕ} {toll : ℕ} {sheet′ ch′ s′ : List ℕ} → OnlyUnread sh s t →
     Moved sh sheet ch t toll sheet′ ch′ s′ → Moved sh sheet ch s toll sheet′ ch′ s′
-moved-search {sh} {sheet} {ch} A M = record {
+moved-unread {sh} {sheet} {ch} A M = record {
   lowered = record {
     state = M .lowered .state;
-    keeps = keeps-then (search-keeps A) (M .lowered .keeps);
-    limits = λ v l. M .lowered .limits v l ∙ limits-search A ch v;
+    lists = M .lowered .lists;
+    keeps = keeps-then (unread-keeps A) (M .lowered .keeps);
+    limits = λ v l. M .lowered .limits v l ∙ limits-unread A ch v;
     range = M .lowered .range;
+    fresh = M .lowered .fresh;
   };
   falls = M .falls;
 }
+
+--------------------------------------------------------------------------------
+-- A path to the sink
 
 -- no selection has more rows than there are
 size-most : {sh : Shape} {sheet ch s : List ℕ} → State sh sheet ch s → size (sh .rows) (keptOf ch) ≤ sh .rows
@@ -69,34 +135,73 @@ size-most {sh} {sheet} {ch} I =
     omega (arith, sum-le (sh .rows) {f = keptOf ch} {g = λ c. 1} (I .level .choice .bits), sum-one (sh .rows))
 
 pub moved-path :
-    {sh : Shape} {sheet ch s t ch′ s′ : List ℕ} {start target : ℕ} {found : Bool} → State sh sheet ch s →
-    Searched sh sheet ch s t start target found → Walked sh sheet ch t ch′ s′ (sh .groups) (sh .groups + 1) →
-    Moved sh sheet ch s (sh .toll) sheet ch′ s′
-moved-path {sh} {sheet} {ch} {s} {t} {ch′} I X W =
-    let J : State sh sheet ch t = state-search (X .only) I in
-    let F = path-filled J (spare-keeps (W .only)) ch′ (W .long) (W .flip) in
-    moved-search (X .only)
+    {sh : Shape} {sheet ch s t ch′ s′ : List ℕ} {n : ℕ} → Running sh sheet ch s →
+    Searched sh sheet ch s t (sh .groups) (sh .groups + 1) n →
+    TurnedBack sh sheet ch t ch′ s′ (sh .groups) (sh .groups + 1) → Moved sh sheet ch s (sh .toll) sheet ch′ s′
+moved-path {sh} {sheet} {ch} {s} {t} {ch′} {s′} R X W =
+    let K = unread-search (X .only) in
+    let J : State sh sheet ch t = state-unread K (R .state) in
+    let F = path-filled J (moves-keeps (W .only)) ch′ (W .long) (W .flip) in
+    let only : OnlyMoves sh s s′ = keeps-then (keeps-more (λ l p. omega arith) (X .only)) (W .only) in
+    let lists : Lists sh sheet s′ = lists-keeps only sheet (R .lists) in
+    let fresh = renamed-fresh sh t s′ (rest-fresh R X) (W .labels) in
+    moved-unread K
     (record {
       lowered = record {
-        state = lowered-none (F .state) .state;
+        state = lowered-none (F .state) lists fresh .state;
+        lists = lists;
         keeps = F .keeps;
         limits = F .limits;
         range = λ top h. h;
+        fresh = fresh;
       };
-      falls = λ l.
-          omega (arith, path-more J (spare-keeps (W .only)) ch′ (W .long) (W .flip), size-most (F .state));
+      falls = λ l. omega (arith, path-more J (moves-keeps (W .only)) ch′ (W .long) (W .flip), size-most (F .state));
     })
 
-pub moved-step :
-    {sh : Shape} {sheet ch s sheet′ ch′ s′ : List ℕ} {r : ℕ} → Stepped sh sheet ch s sheet′ r →
-    Filled (withToll sh (sh .toll - r)) sheet′ ch s ch′ s′ → Moved sh sheet ch s (sh .toll - r) sheet′ ch′ s′
-unfolding limitOf
-moved-step {sh} {r = r} X F = record {
-  lowered = record {
-    state = F .state;
-    keeps = keeps-sized (withToll sh (sh .toll - r)) (sh .free) (sh .toll) (F .keeps);
-    limits = F .limits;
-    range = X .range;
-  };
-  falls = λ l. omega (arith, X .low, X .some l, F .more);
-}
+--------------------------------------------------------------------------------
+-- The toll falls
+
+module _
+    {sh : Shape} {sheet ch s sheet′ t : List ℕ} {n r : ℕ} (X : Stepped sh sheet ch s sheet′ r)
+    (N : Relabelled sh s t n (sh .fresh))
+  where
+    abbrev next : Shape
+    next = withToll sh (sh .toll - r)
+
+    pub stepped-state : State next sheet′ ch t
+    stepped-state =
+        state-unread (keeps-sized sh (sh .free) (sh .toll - r) (sh .fresh) (unread-labels (N .only))) (X .state)
+
+    -- the lists of the new prices are built
+    module _ {t₁ : List ℕ} (L : Listed next sheet′ t t₁) where
+      pub linked-state : State next sheet′ ch t₁
+      linked-state = state-unread (unread-lists (L .only)) stepped-state
+
+      fresh-linked : Failed sh sheet ch s n → AllFresh sh t₁
+      fresh-linked F =
+          fresh-kept sh t t₁ (L .only .rest labels (λ p. omega (arith, p .0)))
+          (renamed-fresh sh s t (F .rest) (renamed-reach sh sheet ch s (F .reach) refl refl N))
+
+      -- and rows are kept
+      module _ {ch′ s′ : List ℕ} (F : Failed sh sheet ch s n) (A : Added next sheet′ ch t₁ ch′ s′) where
+        lists : Lists next sheet′ s′
+        lists =
+            lists-keeps (keeps-more (λ l p. omega (arith, p .1)) (A .only)) sheet′
+            (subst (λ (lo : ℕ). Links next sheet′ t₁ lo) (sym (F .cut .all)) (L .lists))
+
+        pub moved-step : Moved sh sheet ch s (sh .toll - r) sheet′ ch′ s′
+        unfolding limitOf
+        moved-step =
+            moved-unread (unread-labels (N .only))
+            (moved-unread (unread-lists (keeps-sized next (sh .free) (sh .toll) (sh .fresh) (L .only)))
+            (record {
+              lowered = record {
+                state = A .filled .state;
+                lists = lists;
+                keeps = keeps-sized next (sh .free) (sh .toll) (sh .fresh) (A .filled .keeps);
+                limits = A .filled .limits;
+                range = X .range;
+                fresh = fresh-kept sh t₁ s′ (added-labels A) (fresh-linked F);
+              };
+              falls = λ l. omega (arith, X .low, X .some l, A .filled .more);
+            }))

@@ -76,6 +76,7 @@ module _ (sh : Shape) (s : List ℕ) where
     room = L .room;
     formed = N .formed;
     all = L .all;
+    fresh = L .fresh;
     high = L .high;
     low = N .low;
     light = N .light;

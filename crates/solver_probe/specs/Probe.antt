@@ -3,7 +3,8 @@
 --   GroupFormed RowFormed      one group's part of a well formed network, and one row's
 --   GroupsFormed RowsFormed    the same for the first groups, and for the first rows
 --   IsNetwork sh s             the network is well formed, its limits are low and its weights are at most the toll
---   Lent sh sheet ch s         what solving asks besides: the lengths of the buffers, no row barred, and a toll that is low enough
+--   Lent sh sheet ch s         what solving asks besides: the lengths of the buffers, no row barred, a toll that is low enough, and 0 as the
+--                              label of fresh nodes
 --   Lengths sh given-groups given-rows scratch    the lengths that the shape needs
 use mathlib.Core.Path.{_≡_}
 use mathlib.Core.Logic.{_⊎_}
@@ -43,6 +44,7 @@ pub record IsNetwork (sh : Shape) (s : List ℕ) : Type 0 where
 pub record Lent (sh : Shape) (sheet ch s : List ℕ) : Type 0 where
   pub room : Room sh s
   pub all : sh .free ≡ 0
+  pub fresh : sh .fresh ≡ 0
   pub high : sh .toll ≤ highest
   pub sheets : length sheet ≡ sh .groups + sh .rows
   pub choices : length ch ≡ sh .rows

@@ -184,6 +184,7 @@ fn solve_network(scratch: &mut [u32], sheet: &mut [u32], choice: &mut [u8], sh: 
 
 // Whether the numbers given and the scratch have the lengths that the shape needs.
 fn lengths_are(sh: Shape, groups: usize, rows: usize, scratch: usize) -> bool
+    requires { ⌜ sh .fresh ≡ 0 ⌝ }
     ensures { λ r. ⌜ (r ≡ true → Lengths sh groups rows scratch) ⌝ }
 {
     let g = sh.groups;
@@ -200,7 +201,7 @@ fn lengths_are(sh: Shape, groups: usize, rows: usize, scratch: usize) -> bool
     if rows != 3 * n {
         return false;
     }
-    6 * g + 5 * n + 6 <= scratch
+    6 * g + 5 * n + 7 <= scratch
 }
 
 // Solves a network that is given in numbers: `cards` of the groups are card groups and `top` is the largest weight. `groups` holds
@@ -235,6 +236,7 @@ pub extern "C" fn probe_solve(
         rows: n,
         free: 0,
         toll,
+        fresh: 0,
     };
     if !lengths_are(sh, groups.len(), rows.len(), scratch.len()) {
         return 1;

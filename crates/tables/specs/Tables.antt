@@ -1,5 +1,6 @@
 -- The tables that the solver works on, written from an accepted file.
---   shapeOf l              the shape of the day: its sizes, no row barred, and the largest weight as the toll
+--   shapeOf l              the shape of the day: its sizes, no row barred, the largest weight as the toll, and 0 as the label of fresh
+--                          nodes
 --   Shaped l sh            the shape has the day's sizes
 --   Tabled s l sh t        the scratch t holds the day that the file s with layout l is: each node's parent and limit, the two nodes
 --                          of each row and its weight
@@ -27,7 +28,7 @@ use Rattle.residual.specs.Map.{spares, parents, cardNodes, shopNodes, weights}
 use Rattle.residual.specs.Map.{spareOf, parentOf, cardOf, shopOf, weightOf, Room, Keeps}
 
 abbrev pub shapeOf : Layout → Shape
-shapeOf l = record { cards = l .cards; groups = day.groupsOf l; rows = l .rows; free = 0; toll = l .rows + 1 }
+shapeOf l = record { cards = l .cards; groups = day.groupsOf l; rows = l .rows; free = 0; toll = l .rows + 1; fresh = 0 }
 
 pub record Shaped (l : Layout) (sh : Shape) : Type 0 where
   pub cards : sh .cards ≡ l .cards

@@ -79,30 +79,26 @@ fn claim_of(file: &[u8], layout: Layout, c: usize) -> Claim
     claim_at(&file[at..], c)
 }
 
-// Where row `c` hangs on the card side: the group that its claim names.
-fn card_node(file: &[u8], layout: Layout, c: usize) -> usize
-    requires { ⌜ (reading (now file) ≡ Accepted layout) × (c < layout .rows) ⌝ }
-    ensures { λ r. ⌜ (r ≡ day.cardNode (now (file .entry)) layout c) × (r < 65536) ⌝ }
+// Where a claim hangs on the card side: the group that it names.
+fn card_node(claim: Claim) -> usize
+    ensures { λ r. ⌜ r ≡ claim .card ⌝ }
 {
-    let claim = claim_of(file, layout, c);
     claim.card
 }
 
-// Where row `c` hangs on the shop side.
-fn shop_node(file: &[u8], layout: Layout, c: usize) -> usize
-    requires { ⌜ (reading (now file) ≡ Accepted layout) × (c < layout .rows) ⌝ }
-    ensures { λ r. ⌜ (r ≡ day.shopNode (now (file .entry)) layout c) × (r < 65536) ⌝ }
+// Where a claim hangs on the shop side.
+fn shop_node(layout: Layout, claim: Claim) -> usize
+    requires { ⌜ layout .cards + claim .shop < 65536 ⌝ }
+    ensures { λ r. ⌜ r ≡ layout .cards + claim .shop ⌝ }
 {
-    let claim = claim_of(file, layout, c);
     layout.cards + claim.shop
 }
 
-// The weight of row `c`: one earned row outweighs all ordinary ones.
-fn row_weight(file: &[u8], layout: Layout, c: usize) -> usize
-    requires { ⌜ (reading (now file) ≡ Accepted layout) × (c < layout .rows) ⌝ }
+// The weight of row `c`, which is the claim: one earned row outweighs all ordinary ones.
+fn row_weight(file: &[u8], layout: Layout, c: usize, claim: Claim) -> usize
+    requires { ⌜ (reading (now file) ≡ Accepted layout) × ((c < layout .rows) × (claim ≡ claimOf (day.claims (now file) layout) c)) ⌝ }
     ensures { λ r. ⌜ (r ≡ priority.weightOf (layout .rows) (day.kindOf (now (file .entry)) layout) c) × (r < 65536) ⌝ }
 {
-    let claim = claim_of(file, layout, c);
     if claim.kind == EARNED {
         return layout.rows + 1;
     }
@@ -114,9 +110,11 @@ fn write_row(file: &[u8], layout: Layout, scratch: &mut [u32], sh: Shape, c: usi
     requires { ⌜ (Given (now file) layout sh (now scratch)) × (c < layout .rows) ⌝ }
     ensures { λ _. ⌜ PutRow (now (file .entry)) layout sh (now (scratch .entry)) (now (scratch .exit)) c ⌝ }
 {
-    set_card(scratch, sh, c, card_node(file, layout, c));
-    set_shop(scratch, sh, c, shop_node(file, layout, c));
-    set_weight(scratch, sh, c, row_weight(file, layout, c));
+    let claim = claim_of(file, layout, c);
+    let weight = row_weight(file, layout, c, claim);
+    set_card(scratch, sh, c, card_node(claim));
+    set_shop(scratch, sh, c, shop_node(layout, claim));
+    set_weight(scratch, sh, c, weight);
 }
 
 // The nodes and the weight of every row.

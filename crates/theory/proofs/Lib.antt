@@ -9,7 +9,8 @@ pub mod TestLaws
 pub mod EmbedLaws
 pub mod MatroidLaws
 pub mod RankLaws
-pub mod GreedyLaws
+pub mod LandLaws
+pub mod RiseLaws
 pub mod FirstLaws
 pub mod SearchLaws
 pub mod BestLaws
@@ -23,6 +24,8 @@ pub mod StepLaws
 pub mod FinishLaws
 pub mod ResidualLaws
 pub mod TurnLaws
+pub mod OpenLaws
+pub mod ClassLaws
 pub mod FlipLaws
 pub mod WalkLaws
 pub mod AlikeLaws

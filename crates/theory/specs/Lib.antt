@@ -4,7 +4,7 @@ pub mod Forest
 pub mod Incidence
 pub mod Network
 pub mod Matroid
-pub mod Greedy
+pub mod Rise
 pub mod Priority
 pub mod Best
 pub mod Level
@@ -13,3 +13,4 @@ pub mod Residual
 pub mod Step
 pub mod Turn
 pub mod Walk
+pub mod Class

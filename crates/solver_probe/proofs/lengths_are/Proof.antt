@@ -1,7 +1,10 @@
 -- `lengths_are` meets its contract.
 use mathlib.Core.Bool.{true≢false}
 use mathlib.Core.Path.{sym}
+use native.Mathlib.Omega.{arith}
 use borrow.Author.Needs.{needs}
+use borrow.Author.Tests.{leb-true}
+use Rattle.residual.specs.Map.{cells}
 use Rattle.solver_probe.proofs.lengths_are.Statement.{statement}
 use Rattle.solver_probe.proofs.lengths_are.Tie as tie
 
@@ -36,7 +39,15 @@ add-result-2 : tie.Need-add-result-2
 add-result-2 c = search needs
 
 returns-5 : tie.Need-returns-5
-returns-5 c = search needs
+returns-5 c =
+    let sh = c .before .before .before .before .args .sh in
+    λ e.
+    record {
+      few = record { groups = omega arith; rows = omega arith; fresh = omega arith };
+      groups = omega arith;
+      rows = omega arith;
+      size = leb-true (cells sh) _ e;
+    }
 
 pub lengths-are-spec : {M : Type 1} → statement M
 lengths-are-spec =

@@ -38,6 +38,7 @@ solve-network-requires c κs =
     record {
       room = lengths-room lengths (c .before .before .before .before .before .write-rows .kept .1 .0 ∙ c .before .before .before .before .before .before .before .before .before .write-groups .kept .1 .0);
       all = refl;
+      fresh = refl;
       high = omega arith;
       sheets = omega arith;
       choices = refl;

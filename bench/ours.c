@@ -1,0 +1,26 @@
+/* The library's calls. No other file here names them. */
+#include "ours.h"
+#include "claims.h"
+
+enum { MOST_MARKS = 2 * MOST_GROUPS + MOST_ROWS };
+
+static uint32_t sheet[MOST_MARKS], scratch[8 * MOST_MARKS];
+
+void ours_settle(const uint8_t *file, size_t length, struct outcome *out) {
+    struct claims_settle_answer r =
+        claims_settle(file, length, out->choice, MOST_ROWS, sheet, MOST_MARKS, scratch, 8 * MOST_MARKS);
+    out->refusal = r.refusal;
+    out->earned = (unsigned)r.earned;
+    out->kept = (unsigned)r.kept;
+}
+
+/* With no memory lent, settle judges the file and then answers that the memory is short; with no group and no row none is needed. */
+unsigned ours_judge(const uint8_t *file, size_t length) {
+    unsigned refusal = claims_settle(file, length, (uint8_t *)sheet, 0, sheet, 0, scratch, 0).refusal;
+    return refusal == CLAIMS_SHORT ? 0 : refusal;
+}
+
+struct plain_rank ours_fits_and_rank(const uint8_t *file, size_t length, const uint8_t *selection, size_t selected, unsigned side) {
+    struct claims_fits_and_rank_answer r = claims_fits_and_rank(file, length, selection, selected, side);
+    return (struct plain_rank){r.refusal, r.fits, r.rank};
+}

@@ -1,0 +1,92 @@
+/*
+ * The primal-dual method by hand. With two weights the dual prices change twice, so it comes to two greatest flows: of the earned
+ * rows, and then of all rows along the arcs that are still tight. A greatest flow is found in rounds, each one walk through the
+ * network that turns every path it comes upon. What the last walk reached is the border where prices change: no arc across it is
+ * tight from then on.
+ */
+#include <string.h>
+#include "network.h"
+
+struct walk {
+    uint16_t at[MOST_NODES];   /* the half arc next looked at, of each node */
+    uint16_t path[MOST_NODES]; /* the half arcs from the source to the present node */
+    unsigned depth;
+};
+
+/* Moves a unit along the path, and goes back to where the first half arc ran full. */
+static unsigned push(struct network *n, struct walk *w) {
+    unsigned keep = w->depth;
+    for (unsigned k = w->depth; k-- > 0;) {
+        unsigned e = w->path[k];
+        n->left[n->back[e]]++;
+        if (--n->left[e] == 0) keep = k;
+    }
+    for (unsigned k = keep; k < w->depth; k++) n->mark[n->to[w->path[k]]] = 0;
+    w->depth = keep;
+    return n->to[n->back[w->path[keep]]];
+}
+
+/* One walk through the network from the source. Answers how many paths were turned. */
+static unsigned round_of_paths(struct network *n, struct walk *w) {
+    unsigned found = 0, u = n->source;
+    memcpy(w->at, n->first, n->nodes * sizeof *w->at);
+    clear_marks(n);
+    n->mark[u] = n->stamp;
+    w->depth = 0;
+    for (;;) {
+        unsigned e = w->at[u], end = n->first[u + 1];
+        while (e < end && (!n->left[e] || n->mark[n->to[e]] == n->stamp)) e++;
+        w->at[u] = (uint16_t)e;
+        if (e < end) {
+            w->path[w->depth++] = (uint16_t)e;
+            u = n->to[e];
+            n->mark[u] = n->stamp;
+            if (u != n->sink) continue;
+            u = push(n, w);
+            found++;
+        } else {
+            if (w->depth == 0) return found;
+            u = n->to[n->back[w->path[--w->depth]]];
+        }
+    }
+}
+
+static unsigned greatest_flow(struct network *n) {
+    struct walk w;
+    unsigned all = 0, found;
+    while ((found = round_of_paths(n, &w))) all += found;
+    return all;
+}
+
+/* The ordinary rows that are tight once the earned rows are settled: from a reached card to a shop not reached. */
+static void open_ordinary(struct network *n, const struct tables *t) {
+    for (unsigned c = 0; c < t->rows; c++) {
+        unsigned e = n->half[n->groups + c];
+        if (t->kind[c] == 0 && n->mark[n->to[n->back[e]]] == n->stamp && n->mark[n->to[e]] != n->stamp) n->left[e] = 1;
+    }
+}
+
+/* A kept row across the border of the reached nodes stays kept. */
+static void keep_across(const struct network *n, uint8_t *choice) {
+    for (unsigned c = 0; c < n->rows; c++) {
+        unsigned e = n->half[n->groups + c], back = n->back[e];
+        if (n->left[back] && (n->mark[n->to[e]] == n->stamp) != (n->mark[n->to[back]] == n->stamp)) choice[c] = 1;
+    }
+}
+
+void flow_settle(const uint8_t *file, size_t length, struct outcome *out) {
+    struct tables t;
+    struct network n;
+    out->refusal = plain_read(file, length, &t);
+    if (out->refusal) return;
+    build_network(&n, &t, 1);
+    memset(out->choice, 0, t.rows);
+    out->earned = greatest_flow(&n);
+    keep_across(&n, out->choice);
+    freeze_border(&n);
+    open_ordinary(&n, &t);
+    out->kept = out->earned + greatest_flow(&n);
+    keep_across(&n, out->choice);
+    freeze_border(&n);
+    order_rows(&n, out->choice);
+}

@@ -1,0 +1,73 @@
+// LEMON's NetworkSimplex on a day: the most earned rows and then the most rows. It knows no row order.
+//
+// Every arc leads from the source down the cards, along a row and up the shops to the sink; one arc back from the sink closes the
+// circle. A row costs minus its weight, all else is free, and the cheapest circulation is a heaviest choice.
+#include <lemon/network_simplex.h>
+#include <lemon/static_graph.h>
+#include <utility>
+#include <vector>
+#include "contest.h"
+extern "C" {
+#include "plain.h"
+}
+
+namespace {
+
+typedef lemon::StaticDigraph Graph;
+typedef lemon::NetworkSimplex<Graph, int, int> Simplex;
+
+#ifndef PIVOT
+#define PIVOT FIRST_ELIGIBLE  // the fastest of its pivot rules on these days
+#endif
+
+// An arc with what belongs to it. StaticDigraph takes the arcs ordered by where they come from.
+struct Arc {
+    int from, to, capacity, cost;
+};
+
+void list_arcs(const struct tables &t, std::vector<Arc> &arcs) {
+    int cards = t.groups[0], groups = cards + t.groups[1];
+    for (int g = 0; g < cards; g++) arcs.push_back({t.parent[0][g] == TOP ? groups : t.parent[0][g], g, t.limit[0][g], 0});
+    for (unsigned h = 0; h < t.groups[1]; h++)
+        arcs.push_back({cards + (int)h, t.parent[1][h] == TOP ? groups + 1 : cards + t.parent[1][h], t.limit[1][h], 0});
+    for (unsigned c = 0; c < t.rows; c++)
+        arcs.push_back({t.group[0][c], cards + t.group[1][c], 1, t.kind[c] ? -(int)(t.rows + 1) : -1});
+    arcs.push_back({groups + 1, groups, (int)t.rows, 0});
+}
+
+// Orders the arcs by where they come from, by counting.
+void order_arcs(int nodes, const std::vector<Arc> &arcs, std::vector<Arc> &ordered, std::vector<std::pair<int, int>> &ends) {
+    std::vector<int> next(nodes + 1);
+    for (const Arc &a : arcs) next[a.from + 1]++;
+    for (int v = 0; v < nodes; v++) next[v + 1] += next[v];
+    for (const Arc &a : arcs) ordered[next[a.from]++] = a;
+    for (const Arc &a : ordered) ends.push_back({a.from, a.to});
+}
+
+}  // namespace
+
+extern "C" void lemon_settle(const uint8_t *file, size_t length, struct outcome *out) {
+    struct tables t;
+    out->refusal = plain_read(file, length, &t);
+    if (out->refusal) return;
+    int nodes = t.groups[0] + t.groups[1] + 2;
+    std::vector<Arc> arcs;
+    arcs.reserve(nodes + t.rows);
+    list_arcs(t, arcs);
+    std::vector<Arc> ordered(arcs.size());
+    std::vector<std::pair<int, int>> ends;
+    ends.reserve(arcs.size());
+    order_arcs(nodes, arcs, ordered, ends);
+    Graph graph;
+    graph.build(nodes, ends.begin(), ends.end());
+    Graph::ArcMap<int> capacity(graph), cost(graph);
+    for (size_t e = 0; e < ordered.size(); e++) {
+        capacity[graph.arc(e)] = ordered[e].capacity;
+        cost[graph.arc(e)] = ordered[e].cost;
+    }
+    Simplex simplex(graph, false);
+    simplex.upperMap(capacity).costMap(cost).run(Simplex::PIVOT);
+    int worth = -simplex.totalCost<int>();
+    out->earned = worth / (int)(t.rows + 1);
+    out->kept = out->earned + worth % (int)(t.rows + 1);
+}
