@@ -13,7 +13,7 @@
 
 enum { OURS = 0, SIZES = 4, FULL = 3, REPEATS = 21, TIMES = 20 };
 
-static const unsigned sizes[SIZES] = {64, 128, 256, 512};
+static const unsigned sizes[SIZES] = {MOST_ROWS / 8, MOST_ROWS / 4, MOST_ROWS / 2, MOST_ROWS};
 
 /* Medians of each day, and their means over the days of a family. */
 static double days[SIZES][MOST_DAYS][MOST_CONTESTANTS];
@@ -91,7 +91,8 @@ static double print_growth(void) {
     double most = 0;
     printf("\nOurs as claims double, microseconds and growth.\n%-18s", "family");
     for (unsigned s = 0; s < SIZES; s++) printf(" %9u", sizes[s]);
-    printf("    to 128    to 256    to 512\n");
+    for (unsigned s = 1; s < SIZES; s++) printf("    to %3u", sizes[s]);
+    printf("\n");
     for (unsigned f = 0; f < FAMILIES; f++) {
         printf("%-18s", family_names[f]);
         for (unsigned s = 0; s < SIZES; s++) printf(" %9.1f", means[f][s][OURS]);
@@ -109,7 +110,7 @@ static double print_growth(void) {
 
 static volatile unsigned sink;
 static uint8_t selection[MOST_ROWS];
-static struct tables tables;
+static struct day tables;
 
 static void judge_ours(const void *with) {
     const struct file *d = with;
@@ -121,7 +122,7 @@ static void judge_plain(const void *with) {
 }
 static void read_plain(const void *with) {
     const struct file *d = with;
-    sink += plain_read(d->bytes, d->length, &tables);
+    sink += read_day(d->bytes, d->length, &tables);
 }
 static void rank_ours(const void *with) {
     const struct file *d = with;

@@ -1,19 +1,10 @@
 /* Every contestant's answer against ours, and ours against a search through all selections, on a handful of days. */
-#include <stdio.h>
 #include <string.h>
 #include "measure.h"
 #include "ours.h"
-#include "search_all.h"
 
-static unsigned passed, failed;
-
-static void expect(int ok, const char *what, const char *who, unsigned family, unsigned rows, unsigned number) {
-    if (ok) {
-        passed++;
-        return;
-    }
-    failed++;
-    printf("failed: %s: %s: %s, %u claims, day %u\n", who, what, family_names[family], rows, number);
+static void check(int ok, const char *what, const char *who, unsigned family, unsigned rows, unsigned number) {
+    expect(ok, "%s: %s: %s, %u claims, day %u", who, what, family_names[family], rows, number);
 }
 
 static int same(const struct outcome *a, const struct outcome *b, unsigned rows, int with_choice) {
@@ -25,20 +16,25 @@ static int same(const struct outcome *a, const struct outcome *b, unsigned rows,
 static void check_settled(const struct file *day, unsigned family, unsigned rows, unsigned number) {
     static struct outcome ours, theirs;
     ours_settle(day->bytes, day->length, &ours);
-    expect(ours.refusal == 0, "refused", "ours", family, rows, number);
+    check(ours.refusal == 0, "refused", "ours", family, rows, number);
     for (unsigned who = 1; who < contestant_count; who++) {
         memset(&theirs, 7, sizeof theirs);
         contestants[who].settle(day->bytes, day->length, &theirs);
-        expect(same(&theirs, &ours, rows, contestants[who].knows_rows), "another answer than ours", contestants[who].name, family,
-               rows, number);
+        check(same(&theirs, &ours, rows, contestants[who].knows_rows), "another answer than ours", contestants[who].name, family, rows,
+              number);
     }
 }
 
+/* Ours keeps the best of all selections. */
 static void check_searched(const struct file *day, unsigned family, unsigned rows, unsigned number) {
     static struct outcome ours, best;
+    struct day d;
     ours_settle(day->bytes, day->length, &ours);
-    search_all(day->bytes, day->length, &best);
-    expect(same(&ours, &best, rows, 1), "not the best of all selections", "ours", family, rows, number);
+    best.refusal = read_day(day->bytes, day->length, &d);
+    search_all(&d, 2, best.choice);
+    best.earned = count_rows(&d, best.choice, 1);
+    best.kept = count_rows(&d, best.choice, 0);
+    check(same(&ours, &best, rows, 1), "not the best of all selections", "ours", family, rows, number);
 }
 
 static int equal_ranks(struct plain_rank a, struct plain_rank b) { return a.refusal == b.refusal && a.fits == b.fits && a.rank == b.rank; }
@@ -56,15 +52,15 @@ static void check_ranks(const struct file *day, unsigned family, unsigned rows, 
             struct plain_rank ours = ours_fits_and_rank(day->bytes, day->length, selection, selected, side);
             struct plain_rank plain = plain_fits_and_rank(day->bytes, day->length, selection, selected, side);
             struct plain_rank greedy = greedy_fits_and_rank(day->bytes, day->length, selection, selected, side);
-            expect(equal_ranks(ours, plain), "another rank than ours", "plain C", family, rows, number);
-            expect(equal_ranks(ours, greedy), "another rank than ours", "greedy C", family, rows, number);
+            check(equal_ranks(ours, plain), "another rank than ours", "plain C", family, rows, number);
+            check(equal_ranks(ours, greedy), "another rank than ours", "greedy C", family, rows, number);
         }
 }
 
 /* A file that is cut, lengthened, or has one byte set anew: the readers give the same number. */
 static void check_damaged(const struct file *day, unsigned family, unsigned rows, unsigned number) {
     static struct file hurt;
-    static struct tables t;
+    static struct day d;
     static const uint8_t values[] = {0, 1, 2, 127, 255};
     unsigned wrong = 0;
     for (unsigned k = 0; k < 400; k++) {
@@ -73,14 +69,14 @@ static void check_damaged(const struct file *day, unsigned family, unsigned rows
         if (k % 4 != 0) hurt.bytes[day->length * k / 400] = values[k % 5];
         if (k == 398) hurt.bytes[hurt.length++] = 0;
         unsigned ours = ours_judge(hurt.bytes, hurt.length);
-        wrong += ours != plain_read(hurt.bytes, hurt.length, &t);
+        wrong += ours != read_day(hurt.bytes, hurt.length, &d);
         wrong += ours != plain_judge(hurt.bytes, hurt.length);
     }
-    expect(wrong == 0, "another refusal than ours", "plain C", family, rows, number);
+    check(wrong == 0, "another refusal than ours", "plain C", family, rows, number);
 }
 
 int main(void) {
-    static const unsigned small[] = {2, 4, 6, 8, 10, 12}, large[] = {64, 512};
+    static const unsigned small[] = {2, 4, 6, 8, 10, 12}, large[] = {64, MOST_ROWS};
     struct file day;
     for (unsigned family = 0; family < FAMILIES; family++) {
         for (unsigned s = 0; s < 6; s++)
@@ -98,6 +94,5 @@ int main(void) {
         make_day(family, 64, 0, &day);
         check_damaged(&day, family, 64, 0);
     }
-    printf("%u passed, %u failed\n", passed, failed);
-    return failed != 0;
+    return all_done();
 }

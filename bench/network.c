@@ -8,22 +8,22 @@ struct arcs {
 };
 
 /* Flow goes from the source down the cards, along rows and up the shops to the sink. */
-static void list_arcs(struct arcs *a, const struct network *n, const struct tables *t, unsigned least) {
-    unsigned cards = t->groups[0];
+static void list_arcs(struct arcs *a, const struct network *n, const struct day *d, unsigned least) {
+    unsigned cards = d->groups[0];
     for (unsigned g = 0; g < cards; g++) {
-        a->from[g] = (uint16_t)(t->parent[0][g] == TOP ? n->source : t->parent[0][g]);
+        a->from[g] = (uint16_t)(d->parent[0][g] == TOP ? n->source : d->parent[0][g]);
         a->to[g] = (uint16_t)g;
-        a->capacity[g] = t->limit[0][g];
+        a->capacity[g] = d->limit[0][g];
     }
-    for (unsigned h = 0; h < t->groups[1]; h++) {
+    for (unsigned h = 0; h < d->groups[1]; h++) {
         a->from[cards + h] = (uint16_t)(cards + h);
-        a->to[cards + h] = (uint16_t)(t->parent[1][h] == TOP ? n->sink : cards + t->parent[1][h]);
-        a->capacity[cards + h] = t->limit[1][h];
+        a->to[cards + h] = (uint16_t)(d->parent[1][h] == TOP ? n->sink : cards + d->parent[1][h]);
+        a->capacity[cards + h] = d->limit[1][h];
     }
-    for (unsigned c = 0; c < t->rows; c++) {
-        a->from[n->groups + c] = t->group[0][c];
-        a->to[n->groups + c] = (uint16_t)(cards + t->group[1][c]);
-        a->capacity[n->groups + c] = t->kind[c] >= least;
+    for (unsigned c = 0; c < d->rows; c++) {
+        a->from[n->groups + c] = d->group[0][c];
+        a->to[n->groups + c] = (uint16_t)(cards + d->group[1][c]);
+        a->capacity[n->groups + c] = d->kind[c] >= least;
     }
 }
 
@@ -50,20 +50,20 @@ static void place(struct network *n, const struct arcs *a, unsigned e, uint16_t 
 }
 
 /* At a shop the arc up comes first, then those down, then rows; at a card first rows, then the arcs down, then up. */
-void build_network(struct network *n, const struct tables *t, unsigned least) {
+void build_network(struct network *n, const struct day *d, unsigned least) {
     struct arcs a;
     uint16_t next[MOST_NODES];
-    n->groups = t->groups[0] + t->groups[1];
-    n->rows = t->rows;
+    n->groups = d->groups[0] + d->groups[1];
+    n->rows = d->rows;
     n->source = n->groups;
     n->sink = n->groups + 1;
     n->nodes = n->groups + 2;
-    list_arcs(&a, n, t, least);
+    list_arcs(&a, n, d, least);
     count_halves(n, &a);
     memcpy(next, n->first, n->nodes * sizeof *next);
-    for (unsigned v = t->groups[0]; v < n->groups; v++) place(n, &a, v, next);
+    for (unsigned v = d->groups[0]; v < n->groups; v++) place(n, &a, v, next);
     for (unsigned c = 0; c < n->rows; c++) place(n, &a, n->groups + c, next);
-    for (unsigned v = t->groups[0]; v-- > 0;) place(n, &a, v, next);
+    for (unsigned v = d->groups[0]; v-- > 0;) place(n, &a, v, next);
     memset(n->mark, 0, sizeof n->mark);
     n->stamp = 1;
 }

@@ -3,7 +3,6 @@
 #define NETWORK_H
 
 #include "contest.h"
-#include "plain.h"
 
 enum { MOST_NODES = 2 * MOST_GROUPS + 2, MOST_HALVES = 2 * (2 * MOST_GROUPS + MOST_ROWS) };
 
@@ -23,7 +22,7 @@ struct network {
 };
 
 /* Builds the network; rows of a kind below `least` have no capacity yet. */
-void build_network(struct network *n, const struct tables *t, unsigned least);
+void build_network(struct network *n, const struct day *d, unsigned least);
 
 /* Gives each half arc across the border of the marked nodes capacity 0 in both directions. */
 void freeze_border(struct network *n);

@@ -2,8 +2,6 @@
 #include "ours.h"
 #include "claims.h"
 
-enum { MOST_MARKS = 2 * MOST_GROUPS + MOST_ROWS };
-
 static uint32_t sheet[MOST_MARKS], scratch[8 * MOST_MARKS];
 
 void ours_settle(const uint8_t *file, size_t length, struct outcome *out) {

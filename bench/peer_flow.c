@@ -59,10 +59,10 @@ static unsigned greatest_flow(struct network *n) {
 }
 
 /* The ordinary rows that are tight once the earned rows are settled: from a reached card to a shop not reached. */
-static void open_ordinary(struct network *n, const struct tables *t) {
-    for (unsigned c = 0; c < t->rows; c++) {
+static void open_ordinary(struct network *n, const struct day *d) {
+    for (unsigned c = 0; c < d->rows; c++) {
         unsigned e = n->half[n->groups + c];
-        if (t->kind[c] == 0 && n->mark[n->to[n->back[e]]] == n->stamp && n->mark[n->to[e]] != n->stamp) n->left[e] = 1;
+        if (d->kind[c] == 0 && n->mark[n->to[n->back[e]]] == n->stamp && n->mark[n->to[e]] != n->stamp) n->left[e] = 1;
     }
 }
 
@@ -75,16 +75,16 @@ static void keep_across(const struct network *n, uint8_t *choice) {
 }
 
 void flow_settle(const uint8_t *file, size_t length, struct outcome *out) {
-    struct tables t;
+    struct day d;
     struct network n;
-    out->refusal = plain_read(file, length, &t);
+    out->refusal = read_day(file, length, &d);
     if (out->refusal) return;
-    build_network(&n, &t, 1);
-    memset(out->choice, 0, t.rows);
+    build_network(&n, &d, 1);
+    memset(out->choice, 0, d.rows);
     out->earned = greatest_flow(&n);
     keep_across(&n, out->choice);
     freeze_border(&n);
-    open_ordinary(&n, &t);
+    open_ordinary(&n, &d);
     out->kept = out->earned + greatest_flow(&n);
     keep_across(&n, out->choice);
     freeze_border(&n);

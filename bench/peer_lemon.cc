@@ -7,9 +7,6 @@
 #include <utility>
 #include <vector>
 #include "contest.h"
-extern "C" {
-#include "plain.h"
-}
 
 namespace {
 
@@ -25,14 +22,14 @@ struct Arc {
     int from, to, capacity, cost;
 };
 
-void list_arcs(const struct tables &t, std::vector<Arc> &arcs) {
-    int cards = t.groups[0], groups = cards + t.groups[1];
-    for (int g = 0; g < cards; g++) arcs.push_back({t.parent[0][g] == TOP ? groups : t.parent[0][g], g, t.limit[0][g], 0});
-    for (unsigned h = 0; h < t.groups[1]; h++)
-        arcs.push_back({cards + (int)h, t.parent[1][h] == TOP ? groups + 1 : cards + t.parent[1][h], t.limit[1][h], 0});
-    for (unsigned c = 0; c < t.rows; c++)
-        arcs.push_back({t.group[0][c], cards + t.group[1][c], 1, t.kind[c] ? -(int)(t.rows + 1) : -1});
-    arcs.push_back({groups + 1, groups, (int)t.rows, 0});
+void list_arcs(const struct day &d, std::vector<Arc> &arcs) {
+    int cards = d.groups[0], groups = cards + d.groups[1];
+    for (int g = 0; g < cards; g++) arcs.push_back({d.parent[0][g] == TOP ? groups : d.parent[0][g], g, d.limit[0][g], 0});
+    for (unsigned h = 0; h < d.groups[1]; h++)
+        arcs.push_back({cards + (int)h, d.parent[1][h] == TOP ? groups + 1 : cards + d.parent[1][h], d.limit[1][h], 0});
+    for (unsigned c = 0; c < d.rows; c++)
+        arcs.push_back({d.group[0][c], cards + d.group[1][c], 1, d.kind[c] ? -(int)(d.rows + 1) : -1});
+    arcs.push_back({groups + 1, groups, (int)d.rows, 0});
 }
 
 // Orders the arcs by where they come from, by counting.
@@ -47,13 +44,13 @@ void order_arcs(int nodes, const std::vector<Arc> &arcs, std::vector<Arc> &order
 }  // namespace
 
 extern "C" void lemon_settle(const uint8_t *file, size_t length, struct outcome *out) {
-    struct tables t;
-    out->refusal = plain_read(file, length, &t);
+    struct day d;
+    out->refusal = read_day(file, length, &d);
     if (out->refusal) return;
-    int nodes = t.groups[0] + t.groups[1] + 2;
+    int nodes = d.groups[0] + d.groups[1] + 2;
     std::vector<Arc> arcs;
-    arcs.reserve(nodes + t.rows);
-    list_arcs(t, arcs);
+    arcs.reserve(nodes + d.rows);
+    list_arcs(d, arcs);
     std::vector<Arc> ordered(arcs.size());
     std::vector<std::pair<int, int>> ends;
     ends.reserve(arcs.size());
@@ -68,6 +65,6 @@ extern "C" void lemon_settle(const uint8_t *file, size_t length, struct outcome 
     Simplex simplex(graph, false);
     simplex.upperMap(capacity).costMap(cost).run(Simplex::PIVOT);
     int worth = -simplex.totalCost<int>();
-    out->earned = worth / (int)(t.rows + 1);
-    out->kept = out->earned + worth % (int)(t.rows + 1);
+    out->earned = worth / (int)(d.rows + 1);
+    out->kept = out->earned + worth % (int)(d.rows + 1);
 }

@@ -50,19 +50,19 @@ static void unhang(struct simplex *s, unsigned v) {
 }
 
 /* The arcs of the groups and of the rows, and the one that leads back. */
-static void list_arcs(struct simplex *s, const struct tables *t) {
-    unsigned cards = t->groups[0], source = s->groups, sink = s->root;
+static void list_arcs(struct simplex *s, const struct day *d) {
+    unsigned cards = d->groups[0], source = s->groups, sink = s->root;
     for (unsigned g = 0; g < cards; g++)
-        set_arc(s, g, t->parent[0][g] == TOP ? source : t->parent[0][g], g, t->limit[0][g], 0);
-    for (unsigned h = 0; h < t->groups[1]; h++)
-        set_arc(s, cards + h, cards + h, t->parent[1][h] == TOP ? sink : cards + t->parent[1][h], t->limit[1][h], 0);
-    for (unsigned c = 0; c < t->rows; c++)
-        set_arc(s, s->groups + c, t->group[0][c], cards + t->group[1][c], 1, t->kind[c] ? -(int)(t->rows + 1) : -1);
-    set_arc(s, s->arcs - 1, sink, source, (int)t->rows, 0);
+        set_arc(s, g, d->parent[0][g] == TOP ? source : d->parent[0][g], g, d->limit[0][g], 0);
+    for (unsigned h = 0; h < d->groups[1]; h++)
+        set_arc(s, cards + h, cards + h, d->parent[1][h] == TOP ? sink : cards + d->parent[1][h], d->limit[1][h], 0);
+    for (unsigned c = 0; c < d->rows; c++)
+        set_arc(s, s->groups + c, d->group[0][c], cards + d->group[1][c], 1, d->kind[c] ? -(int)(d->rows + 1) : -1);
+    set_arc(s, s->arcs - 1, sink, source, (int)d->rows, 0);
 }
 
-static void first_basis(struct simplex *s, const struct tables *t) {
-    unsigned cards = t->groups[0], source = s->groups;
+static void first_basis(struct simplex *s, const struct day *d) {
+    unsigned cards = d->groups[0], source = s->groups;
     for (unsigned v = 0; v <= NO_NODE; v++) s->child[v] = NO_NODE;
     memset(s->price, 0, sizeof s->price);
     s->depth[s->root] = 0;
@@ -204,21 +204,21 @@ static void take_over(struct network *n, const struct simplex *s, uint8_t *choic
 }
 
 void simplex_settle(const uint8_t *file, size_t length, struct outcome *out) {
-    struct tables t;
+    struct day d;
     struct simplex s;
     struct network n;
-    out->refusal = plain_read(file, length, &t);
+    out->refusal = read_day(file, length, &d);
     if (out->refusal) return;
-    s.groups = t.groups[0] + t.groups[1];
-    s.arcs = s.groups + t.rows + 1;
+    s.groups = d.groups[0] + d.groups[1];
+    s.arcs = s.groups + d.rows + 1;
     s.root = s.groups + 1;
-    list_arcs(&s, &t);
-    first_basis(&s, &t);
+    list_arcs(&s, &d);
+    first_basis(&s, &d);
     run(&s);
-    build_network(&n, &t, 0);
+    build_network(&n, &d, 0);
     take_over(&n, &s, out->choice);
     out->earned = 0;
-    for (unsigned c = 0; c < t.rows; c++) out->earned += t.kind[c] && s.flow[s.groups + c];
+    for (unsigned c = 0; c < d.rows; c++) out->earned += d.kind[c] && s.flow[s.groups + c];
     out->kept = (unsigned)s.flow[s.arcs - 1];
     order_rows(&n, out->choice);
 }

@@ -1,7 +1,8 @@
 -- Laws of an accepted file: `accepted-sound` says what holds of it. The others lead there.
---   each-record all-whole      what a run of records without a fault says of each, and of the room that they take
---   groups-fine rows-fine      the group records and the claim records without a fault
---   section-read claims-read   a section that was read
+--   one-layout not-both        a reading is accepted with one layout, and is not refused too
+--   records-fine all-whole     what a run of records without a fault says of each, and of the room that they take
+--   group-fine claim-fine      the fields of a group and of a claim without a fault
+--   taken                      a section that was read
 --   accepted-sound             an accepted file is sound
 --   longest                    it has at most 4,614 bytes
 use mathlib.Core.Path.{_≡_, refl, sym, ap, _∙_, subst}
@@ -10,14 +11,16 @@ use mathlib.Core.List.{List}
 use Prim.Native.Nat.{ℕ, zero, suc, _+_, _*_, _-_, _<_, _≤_}
 use native.Mathlib.Decide.{ℕ-discrete, decLt}
 use native.Mathlib.Numerals.{add-one}
-use native.Mathlib.Nat.{sub-zero}
+use native.Mathlib.Nat.{sub-zero, mul-zero, mul-suc}
 use native.Mathlib.Omega.{arith}
 use lib.ListN.{length, drop, length-drop}
 use borrow.Author.Tests.{lt-ltb, lt-leb, le-leb}
-use Rattle.claimfile.specs.File.{word, groupOf, claimOf, groupsFrom, sectionAt, claimFault, rowsFrom, claimsAt, reading}
-use Rattle.claimfile.specs.Day.{SmallerOrTop, Sound}
+use Rattle.theory.specs.Bounds.{maxGroups, maxRows}
+use Rattle.claimfile.specs.File.{top, groupWidth, claimWidth, word, groupAt, claimAt, groupFault, claimFault, recordsFrom}
+use Rattle.claimfile.specs.File.{groupsFrom, rowsFrom, countFault, sectionOf, sectionBy, sectionAt, claimsAt, reading}
+use Rattle.claimfile.specs.Day.{countOf, groupOf, SmallerOrTop, Sound}
 use Rattle.claimfile.specs.declared.Refusal.{Refusal}
-use Rattle.claimfile.specs.declared.Refusal.the-variants.{NoSuchGroup, Kind}
+use Rattle.claimfile.specs.declared.Refusal.the-variants.{GroupCount, ClaimCount, NoSuchGroup, Kind}
 use Rattle.claimfile.specs.declared.Checked.{Checked}
 use Rattle.claimfile.specs.declared.Checked.the-variants.{Fine, Fault}
 use Rattle.claimfile.specs.declared.Section.{Section}
@@ -25,64 +28,74 @@ use Rattle.claimfile.specs.declared.Section.the-variants.{Read, Faulty}
 use Rattle.claimfile.specs.declared.Reading.{Reading}
 use Rattle.claimfile.specs.declared.Reading.the-variants.{Accepted, Refused}
 use Rattle.claimfile.specs.declared.Layout.{Layout}
+use Rattle.claimfile.specs.declared.Group.{Group}
 use Rattle.claimfile.specs.declared.Claim.{Claim}
-use Rattle.claimfile.proofs.FileLaws.{parent-small, parent-top, group-cut, bad-parent, next-group, row-cut, row-fault, next-row}
-use Rattle.claimfile.proofs.FileLaws.{section-cut, section-large, section-is, claims-cut, claims-large, claims-is}
+use Rattle.claimfile.proofs.FileLaws.{never, parent-bad, record-cut, record-fault, next-record}
+use Rattle.claimfile.proofs.FileLaws.{count-fine, section-fault, section-fits}
 use Rattle.claimfile.proofs.FileLaws.{cards-fault, shops-fault, claims-fault, trailing, accepted}
 
-module _ (from : ℕ → Checked) (count : ℕ) (P : ℕ → Type 0) where
-  -- where a run without a fault from record k says P of k and goes on without a fault, one from 0 says P of each
-  each-record :
-      ((k : ℕ) → k < count → from k ≡ Fine → P k × (from (k + 1) ≡ Fine)) → from 0 ≡ Fine →
-      (k : ℕ) → k < count → P k
-  each-record step begin k l = step k l (fine k (omega arith)) .0
-    where
-      fine : (k : ℕ) → k ≤ count → from k ≡ Fine
-      fine zero h = begin
-      fine (suc k) h = rw (← add-one) (step k (omega arith) (fine k (omega arith)) .1)
+pub one-layout : (x : Reading) (k l : Layout) → x ≡ Accepted k → x ≡ Accepted l → k ≡ l
+one-layout x k l p q = cc
 
--- the records end within the file where each of them does
-all-whole : (end : ℕ → ℕ) (size count : ℕ) → end 0 ≤ size → ((k : ℕ) → k < count → end (k + 1) ≤ size) → end count ≤ size
-all-whole end size zero first each = first
-all-whole end size (suc n) first each = rw (← add-one) (each n (omega arith))
+pub one-refusal : (x : Reading) (v w : Refusal) → x ≡ Refused v → x ≡ Refused w → v ≡ w
+one-refusal x v w p q = cc
 
-never : {A : Type 0} (x : Checked) (why : Refusal) → x ≡ Fine → x ≡ Fault why → A
-never x why p q =
+pub not-both : {A : Type 0} (x : Reading) (l : Layout) (why : Refusal) → x ≡ Accepted l → x ≡ Refused why → A
+not-both x l why p q =
     let z : _≡_ {A = ℕ} 0 1 = cc in
     absurd (omega arith)
 
-record WholeGroup (s : List ℕ) (start g : ℕ) : Type 0 where
-  whole : start + 4 * (g + 1) ≤ length s
-  parent : SmallerOrTop g (groupOf s start g .parent)
+--------------------------------------------------------------------------------
+-- Records without a fault
 
-module _ (s : List ℕ) (start count : ℕ) where
-  group-fine :
-      (g : ℕ) → g < count → groupsFrom s start g (count - g) ≡ Fine →
-      WholeGroup s start g × (groupsFrom s start (g + 1) (count - (g + 1)) ≡ Fine)
-  group-fine g l e =
-      elim (decLt (length s) (start + 4 * g + 4)) [
-        | yes short ↦ never _ _ e (group-cut s start count g l short)
-        | no h ↦
-            let whole : start + 4 * g + 4 ≤ length s = omega arith in
-            elim (decLt (word s (start + 4 * g)) g) [
-              | yes small ↦ (
-                record { whole = omega arith; parent = inl small },
-                sym (next-group s start count g l whole (parent-small g _ small)) ∙ e,
-              )
-              | no large ↦
-                  elim (ℕ-discrete (word s (start + 4 * g)) 65535) [
-                    | yes top ↦ (
-                      record { whole = omega arith; parent = inr top },
-                      sym (next-group s start count g l whole (parent-top g _ (omega arith) top)) ∙ e,
-                    )
-                    | no other ↦ never _ _ e (bad-parent s start count g l whole (omega arith) other)
-                  ]
-            ]
+-- record k lies within the bytes, and its fields have no fault
+record FineRecord (size start width : ℕ) (fault : ℕ → Checked) (k : ℕ) : Type 0 where
+  whole : start + width * k + width ≤ size
+  fine : fault k ≡ Fine
+
+module _ (size start width : ℕ) (fault : ℕ → Checked) (count : ℕ) where
+  abbrev from : ℕ → Checked
+  from k = recordsFrom size start width fault k (count - k)
+
+  record-fine : (k : ℕ) → k < count → from k ≡ Fine → FineRecord size start width fault k × (from (k + 1) ≡ Fine)
+  record-fine k l e =
+      elim (decLt size (start + width * k + width)) [
+        | yes short ↦ never _ _ e (record-cut size start width fault count k l short)
+        | no h ↦ judged (fault k) refl (omega arith)
       ]
+    where
+      judged :
+          (x : Checked) → fault k ≡ x → start + width * k + width ≤ size →
+          FineRecord size start width fault k × (from (k + 1) ≡ Fine)
+      judged Fine p whole =
+          (record { whole = whole; fine = p }, sym (next-record size start width fault count k l whole p) ∙ e)
+      judged (Fault why) p whole = never _ _ e (record-fault size start width fault count k l whole why p)
 
-  groups-fine : groupsFrom s start 0 count ≡ Fine → (g : ℕ) → g < count → WholeGroup s start g
-  groups-fine fine =
-      each-record (λ g. groupsFrom s start g (count - g)) count (WholeGroup s start) group-fine (simp sub-zero fine)
+  records-fine :
+      recordsFrom size start width fault 0 count ≡ Fine → (k : ℕ) → k < count → FineRecord size start width fault k
+  records-fine begin k l = record-fine k l (fine k (omega arith)) .0
+    where
+      fine : (k : ℕ) → k ≤ count → from k ≡ Fine
+      fine zero h = simp sub-zero begin
+      fine (suc k) h = rw (← add-one) (record-fine k (omega arith) (fine k (omega arith)) .1)
+
+-- the records end within the bytes where each of them does
+all-whole :
+    (size start width count : ℕ) → start ≤ size → ((k : ℕ) → k < count → start + width * k + width ≤ size) →
+    start + width * count ≤ size
+all-whole size start width zero first each = simp mul-zero (omega arith)
+all-whole size start width (suc n) first each = rw mul-suc (omega (arith, each n (omega arith)))
+
+group-fine : (own : ℕ) (group : Group) → groupFault own group ≡ Fine → SmallerOrTop own (group .parent)
+group-fine own group e =
+    elim (decLt (group .parent) own) [
+      | yes small ↦ inl small
+      | no large ↦
+          elim (ℕ-discrete (group .parent) top) [
+            | yes is ↦ inr is
+            | no other ↦ never _ _ e (parent-bad own group (omega arith) other)
+          ]
+    ]
 
 -- the fields of a claim without a fault
 record FineClaim (claim : Claim) (cards shops : ℕ) : Type 0 where
@@ -110,46 +123,8 @@ claim-fine claim cards shops e =
           never _ NoSuchGroup e (rw (le-leb _ _ large))
     ]
 
-record WholeRow (r : List ℕ) (cards shops c : ℕ) : Type 0 where
-  whole : 5 * (c + 1) ≤ length r
-  fine : FineClaim (claimOf r c) cards shops
-
-module _ (r : List ℕ) (cards shops count : ℕ) where
-  row-fine :
-      (c : ℕ) → c < count → rowsFrom r cards shops c (count - c) ≡ Fine →
-      WholeRow r cards shops c × (rowsFrom r cards shops (c + 1) (count - (c + 1)) ≡ Fine)
-  row-fine c l e =
-      elim (decLt (length r) (5 * c + 5)) [
-        | yes short ↦ never _ _ e (row-cut r cards shops count c l short)
-        | no h ↦ judged (claimFault (claimOf r c) cards shops) refl (omega arith)
-      ]
-    where
-      judged :
-          (x : Checked) → claimFault (claimOf r c) cards shops ≡ x → 5 * c + 5 ≤ length r →
-          WholeRow r cards shops c × (rowsFrom r cards shops (c + 1) (count - (c + 1)) ≡ Fine)
-      judged Fine p whole = (
-        record { whole = omega arith; fine = claim-fine (claimOf r c) cards shops p },
-        sym (next-row r cards shops count c l whole p) ∙ e,
-      )
-      judged (Fault why) p whole = never _ _ e (row-fault r cards shops count c l whole why p)
-
-  rows-fine : rowsFrom r cards shops 0 count ≡ Fine → (c : ℕ) → c < count → WholeRow r cards shops c
-  rows-fine fine =
-      each-record (λ c. rowsFrom r cards shops c (count - c)) count (WholeRow r cards shops) row-fine (simp sub-zero fine)
-
--- a section that was read: its count stands at a place, its records have the size, and Each holds of each of them
-record Taken (s : List ℕ) (at size most : ℕ) (Each : ℕ → ℕ → Type 0) (count start next : ℕ) : Type 0 where
-  place : start ≡ at + 2
-  after : next ≡ at + 2 + size * count
-  within : next ≤ length s
-  small : count ≤ most
-  each : (k : ℕ) → k < count → Each start k
-
-abbrev GroupFits : List ℕ → ℕ → ℕ → Type 0
-GroupFits s start g = SmallerOrTop g (groupOf s start g .parent)
-
-abbrev RowFits : List ℕ → ℕ → ℕ → ℕ → ℕ → Type 0
-RowFits s cards shops start c = FineClaim (claimOf (drop start s) c) cards shops
+--------------------------------------------------------------------------------
+-- A section that was read
 
 never-read :
     {A : Type 0} (x : Section) (why : Refusal) (count start next : ℕ) → x ≡ Read count start next → x ≡ Faulty why → A
@@ -157,80 +132,85 @@ never-read x why count start next p q =
     let z : _≡_ {A = ℕ} 0 1 = cc in
     absurd (omega arith)
 
-module _ (s : List ℕ) (at count start next : ℕ) where
-  taken :
-      (size most n : ℕ) (Each : ℕ → ℕ → Type 0) → Read count start next ≡ Read n (at + 2) (at + 2 + size * n) → n ≤ most →
-      at + 2 + size * n ≤ length s → ((k : ℕ) → k < n → Each (at + 2) k) → Taken s at size most Each count start next
-  taken size most n Each e small within each =
-      let counted : count ≡ n = cc in
-      let place : start ≡ at + 2 = cc in
-      let after : next ≡ at + 2 + size * n = cc in
-      record {
-        place = place;
-        after = after ∙ ap (λ (m : ℕ). at + 2 + size * m) (sym counted);
-        within = omega arith;
-        small = omega arith;
-        each = λ k l. subst (λ (a : ℕ). Each a k) (sym place) (each k (omega arith));
-      }
+-- its count stands at a place, its records have a width, and Each holds of each of them
+record Taken (s : List ℕ) (at most width : ℕ) (Each : ℕ → ℕ → Type 0) (count start next : ℕ) : Type 0 where
+  place : start ≡ at + 2
+  after : next ≡ at + 2 + width * count
+  within : next ≤ length s
+  small : count ≤ most
+  each : (k : ℕ) → k < count → Each start k
 
-  section-read :
-      sectionAt s at ≡ Read count start next →
-      Taken s at 4 256 (GroupFits s) count start next
-  section-read e =
-      elim (decLt (length s) (at + 2)) [
-        | yes short ↦ never-read _ _ _ _ _ e (section-cut s at short)
-        | no h ↦
-            let whole : at + 2 ≤ length s = omega arith in
-            elim (decLt 256 (word s at)) [
-              | yes large ↦ never-read _ _ _ _ _ e (section-large s at whole large)
-              | no small ↦ judged (groupsFrom s (at + 2) 0 (word s at)) refl whole (omega arith)
-            ]
-      ]
+module _ (s : List ℕ) (at most : ℕ) (over : Refusal) (width : ℕ) (checked : Checked) (count start next : ℕ) where
+  -- where records without a fault lie within the file and Each holds of them
+  taken :
+      (Each : ℕ → ℕ → Type 0) →
+      (checked ≡ Fine → (k : ℕ) → k < word s at → (at + 2 + width * k + width ≤ length s) × Each (at + 2) k) →
+      sectionBy s at most over width checked ≡ Read count start next → Taken s at most width Each count start next
+  taken Each records e = judged (countFault s at most over) refl
     where
-      judged :
-          (x : Checked) → groupsFrom s (at + 2) 0 (word s at) ≡ x → at + 2 ≤ length s → word s at ≤ 256 →
-          Taken s at 4 256 (GroupFits s) count start next
-      judged Fine f whole small =
-          let each = groups-fine s (at + 2) (word s at) f in
-          taken 4 256 (word s at) (GroupFits s) (sym e ∙ section-is s at whole (word s at) Fine refl small (sym f)) small
-          (all-whole (λ k. at + 2 + 4 * k) (length s) (word s at) (omega arith) (λ k l. each k l .whole))
-          (λ k l. each k l .parent)
-      judged (Fault why) f whole small =
-          never-read _ _ _ _ _ e (section-is s at whole (word s at) (Fault why) refl small (sym f))
+      told :
+          at + 2 ≤ length s → word s at ≤ most → (x : Checked) → checked ≡ x →
+          Read count start next ≡ sectionOf x (word s at) (at + 2) width → Taken s at most width Each count start next
+      told whole small (Fault why) f is = never-read (Read count start next) why count start next refl is
+      told whole small Fine f is =
+          let counted : count ≡ word s at = cc in
+          let place : start ≡ at + 2 = cc in
+          let after : next ≡ at + 2 + width * word s at = cc in
+          record {
+            place = place;
+            after = after ∙ ap (λ (n : ℕ). at + 2 + width * n) (sym counted);
+            within =
+                omega (arith, after, all-whole (length s) (at + 2) width (word s at) whole (λ k l. records f k l .0));
+            small = omega arith;
+            each = λ k l. subst (λ (a : ℕ). Each a k) (sym place) (records f k (omega arith) .1);
+          }
+
+      judged : (x : Checked) → countFault s at most over ≡ x → Taken s at most width Each count start next
+      judged (Fault why) f = never-read _ why count start next e (section-fault s at most over width checked why f)
+      judged Fine f =
+          let fine = count-fine s at most over f in
+          told (fine .0) (fine .1) checked refl (sym e ∙ section-fits s at most over width checked f)
+
+abbrev GroupFits : List ℕ → ℕ → ℕ → Type 0
+GroupFits s start g = SmallerOrTop g (groupAt s start g .parent)
+
+abbrev RowFits : List ℕ → ℕ → ℕ → ℕ → ℕ → Type 0
+RowFits s cards shops start c = FineClaim (claimAt (drop start s) c) cards shops
+
+module _ (s : List ℕ) (at count start next : ℕ) where
+  section-read :
+      sectionAt s at ≡ Read count start next → Taken s at maxGroups groupWidth (GroupFits s) count start next
+  unfolding sectionAt
+  section-read =
+      taken s at maxGroups GroupCount groupWidth (groupsFrom s (at + 2) 0 (word s at)) count start next (GroupFits s)
+      (λ f g l.
+      let r = records-fine (length s) (at + 2) groupWidth (λ g. groupFault g (groupAt s (at + 2) g)) (word s at) f g l in
+      (r .whole, group-fine g (groupAt s (at + 2) g) (r .fine)))
 
   claims-read :
       (cards shops : ℕ) → claimsAt s at cards shops ≡ Read count start next →
-      Taken s at 5 512 (RowFits s cards shops) count start next
-  claims-read cards shops e =
-      elim (decLt (length s) (at + 2)) [
-        | yes short ↦ never-read _ _ _ _ _ e (claims-cut s at cards shops short)
-        | no h ↦
-            let whole : at + 2 ≤ length s = omega arith in
-            elim (decLt 512 (word s at)) [
-              | yes large ↦ never-read _ _ _ _ _ e (claims-large s at whole cards shops large)
-              | no small ↦ judged (rowsFrom (drop (at + 2) s) cards shops 0 (word s at)) refl whole (omega arith)
-            ]
-      ]
-    where
-      judged :
-          (x : Checked) → rowsFrom (drop (at + 2) s) cards shops 0 (word s at) ≡ x → at + 2 ≤ length s → word s at ≤ 512 →
-          Taken s at 5 512 (RowFits s cards shops) count start next
-      judged Fine f whole small =
-          let each = rows-fine (drop (at + 2) s) cards shops (word s at) f in
-          taken 5 512 (word s at) (RowFits s cards shops)
-          (sym e ∙ claims-is s at whole cards shops (word s at) Fine refl small (sym f)) small
-          (all-whole (λ k. at + 2 + 5 * k) (length s) (word s at) (omega arith)
-          (λ k l. omega (arith, each k l .whole, length-drop (at + 2) s)))
-          (λ k l. each k l .fine)
-      judged (Fault why) f whole small =
-          never-read _ _ _ _ _ e (claims-is s at whole cards shops (word s at) (Fault why) refl small (sym f))
+      Taken s at maxRows claimWidth (RowFits s cards shops) count start next
+  unfolding claimsAt
+  claims-read cards shops =
+      taken s at maxRows ClaimCount claimWidth (rowsFrom (drop (at + 2) s) cards shops 0 (word s at)) count start next
+      (RowFits s cards shops)
+      (λ f c l.
+      let r =
+      records-fine (length (drop (at + 2) s)) 0 claimWidth (λ c. claimFault (claimAt (drop (at + 2) s) c) cards shops)
+      (word s at) f c l
+      in
+      (omega (arith, r .whole, length-drop (at + 2) s), claim-fine (claimAt (drop (at + 2) s) c) cards shops (r .fine)))
+
+--------------------------------------------------------------------------------
+-- The file
 
 -- three sections that were read, one behind the other, up to the end of the file
 module _ (s : List ℕ) (l : Layout) (next after end : ℕ) where
   sound :
-      Taken s 0 4 256 (GroupFits s) (l .cards) (l .«card_at») next →
-      Taken s next 4 256 (GroupFits s) (l .shops) (l .«shop_at») after →
-      Taken s after 5 512 (RowFits s (l .cards) (l .shops)) (l .rows) (l .«row_at») end → length s ≤ end → Sound s l
+      Taken s 0 maxGroups groupWidth (GroupFits s) (l .cards) (l .«card_at») next →
+      Taken s next maxGroups groupWidth (GroupFits s) (l .shops) (l .«shop_at») after →
+      Taken s after maxRows claimWidth (RowFits s (l .cards) (l .shops)) (l .rows) (l .«row_at») end →
+      length s ≤ end → Sound s l
   sound cards shops rows h =
       record {
         card-place = omega arith;
@@ -240,21 +220,19 @@ module _ (s : List ℕ) (l : Layout) (next after end : ℕ) where
         cards-most = cards .small;
         shops-most = shops .small;
         rows-most = rows .small;
-        card-parents = cards .each;
-        shop-parents = shops .each;
+        parents = parents;
         row-cards = λ c m. rows .each c m .card;
         row-shops = λ c m. rows .each c m .shop;
         row-kinds = λ c m. rows .each c m .kind;
       }
-
-one-layout : (x : Reading) (k l : Layout) → x ≡ Accepted k → x ≡ Accepted l → k ≡ l
-one-layout x k l p q = cc
+    where
+      parents : (side g : ℕ) → g < countOf l side → SmallerOrTop g (groupOf s l side g .parent)
+      parents zero = cards .each
+      parents (suc n) = shops .each
 
 module _ (s : List ℕ) (l : Layout) (is : reading s ≡ Accepted l) where
   refused : {A : Type 0} (why : Refusal) → reading s ≡ Refused why → A
-  refused why e =
-      let z : _≡_ {A = ℕ} 0 1 = cc in
-      absurd (omega arith)
+  refused why e = not-both (reading s) l why is e
 
   sound-claims :
       (cards cardAt next shops shopAt after : ℕ) → sectionAt s 0 ≡ Read cards cardAt next →

@@ -2,4 +2,3 @@
 pub mod FileLaws
 pub mod AcceptedLaws
 pub mod DayLaws
-pub mod Examples

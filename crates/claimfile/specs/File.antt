@@ -1,18 +1,31 @@
 -- The claim file of document 01, "The claim file" and "Turned-away files": what any list of bytes is, accepted or refused.
+--   top                    the parent of a group at the top, which is the greatest number of 16 bits
+--   groupWidth claimWidth  how many bytes a group record and a claim record have
 --   word s at              the 16-bit number at a place, low byte first; a byte past the end is 0
---   groupOf s start g      the group record g of the section whose records start there: parent, limit
---   claimOf r c            the claim record c of a claims section r, given from its first record on: card group, shop group, kind
---   groupsFrom, rowsFrom   the first fault of the records that are left, from the record with the own number on
---   sectionAt, claimsAt    the section whose count stands at a place
+--   groupAt s start g      the group record g of the section whose records start there: parent, limit
+--   claimAt r c            the claim record c of a claims section r, given from its first record on: card group, shop group, kind
+--   orElse x y             the first fault of two checks
+--   parentFits own parent  whether a group with its own number may have that parent
+--   groupFault own group   the first fault of a group's fields
+--   claimFault claim cards shops   the first fault of a claim's fields
+--   recordsFrom size start width fault k left   the first fault of the records that are left from record k on, where the first
+--                          record starts at `start` of `size` bytes, each has `width` of them, and `fault` is that of its fields
+--   groupsFrom, rowsFrom   the same for group records and for claim records
+--   countFault s at most over  the first fault of a count: it is not whole, or it is over the most, which is the refusal `over`
+--   sectionOf checked count start width     a section by the check of its count and its records
+--   sectionBy s at most over width checked  the section whose count stands at a place, by the check of its records
+--   sectionAt, claimsAt    the group section and the claims section whose count stands at a place
+--   refusedBy section      the reading of a file with a faulty section
+--   afterCards, afterShops, afterClaims     the reading of a file, by the section that was read last
 --   reading s              the file: accepted with its layout, or refused by the first fault met
---   numberOf why           the number of each refusal in document 01's table
 -- "The file is read from the front and the first fault met is the one told. A count is judged before its records, a record must
 -- be whole before its fields are judged, and fields are judged in order (card group, shop group, kind)."
 use Prim.Native.Nat.{ℕ, zero, suc, _+_, _*_}
 use mathlib.Core.List.{List}
-use mathlib.Core.Bool.{Bool, true, false}
+use mathlib.Core.Bool.{Bool, true}
 use lib.ListN.{length, getD, drop}
 use lib.Dec.{ltb, leb, eqb}
+use Rattle.theory.specs.Bounds.{maxGroups, maxRows, maxLimit}
 use Rattle.theory.specs.Sum.{pick}
 use Rattle.claimfile.specs.declared.Refusal.{Refusal}
 use Rattle.claimfile.specs.declared.Refusal.the-variants.{CutOff, GroupCount, Parent, ClaimCount, NoSuchGroup, Kind, Trailing}
@@ -22,53 +35,45 @@ use Rattle.claimfile.specs.declared.Section.{Section}
 use Rattle.claimfile.specs.declared.Section.the-variants.{Read, Faulty}
 use Rattle.claimfile.specs.declared.Reading.{Reading}
 use Rattle.claimfile.specs.declared.Reading.the-variants.{Accepted, Refused}
-use Rattle.claimfile.specs.declared.Layout.{Layout}
 use Rattle.claimfile.specs.declared.Group.{Group}
 use Rattle.claimfile.specs.declared.Claim.{Claim}
 
--- document 01's table of refusals
-abbrev pub numberOf : Refusal → ℕ
-numberOf CutOff = 1
-numberOf GroupCount = 2
-numberOf Parent = 3
-numberOf ClaimCount = 4
-numberOf NoSuchGroup = 5
-numberOf Kind = 6
-numberOf Trailing = 7
+abbrev pub top : ℕ
+top = maxLimit
+
+abbrev pub groupWidth : ℕ
+groupWidth = 4
+
+abbrev pub claimWidth : ℕ
+claimWidth = 5
 
 abbrev pub word : List ℕ → ℕ → ℕ
 word s at = getD s at 0 + 256 * getD s (at + 1) 0
 
-abbrev pub groupOf : List ℕ → ℕ → ℕ → Group
-groupOf s start g = record { parent = word s (start + 4 * g); limit = word s (start + 4 * g + 2) }
+abbrev pub groupAt : List ℕ → ℕ → ℕ → Group
+groupAt s start g = record { parent = word s (start + groupWidth * g); limit = word s (start + groupWidth * g + 2) }
 
-abbrev pub claimOf : List ℕ → ℕ → Claim
-claimOf r c = record { card = word r (5 * c); shop = word r (5 * c + 2); kind = getD r (5 * c + 4) 0 }
+abbrev pub claimAt : List ℕ → ℕ → Claim
+claimAt r c = record {
+  card = word r (claimWidth * c);
+  shop = word r (claimWidth * c + 2);
+  kind = getD r (claimWidth * c + 4) 0;
+}
+
+--------------------------------------------------------------------------------
+-- The records of a section
+
+abbrev pub orElse : Checked → Checked → Checked
+orElse Fine next = next
+orElse (Fault why) next = Fault why
 
 -- "A parent is a smaller group number of that section, or 65535 for a group at the top."
 abbrev pub parentFits : ℕ → ℕ → Bool
-parentFits own parent = pick (ltb parent own) true (eqb parent 65535)
+parentFits own parent = pick (ltb parent own) true (eqb parent top)
 
--- refusals 1 and 3 of the group records
-unfoldable pub groupsFrom : List ℕ → ℕ → ℕ → ℕ → Checked
-groupsFrom s start own zero = Fine
-groupsFrom s start own (suc left) =
-    pick (ltb (length s) (start + 4 * own + 4))
-    (Fault CutOff)
-    (pick (parentFits own (groupOf s start own .parent)) (groupsFrom s start (suc own) left) (Fault Parent))
-
-abbrev pub groupsRead : Checked → ℕ → ℕ → Section
-groupsRead Fine count start = Read count start (start + 4 * count)
-groupsRead (Fault why) count start = Faulty why
-
--- refusals 1 and 2 of a group section's count, then its records: one definition for cards and for shops
-unfoldable pub sectionAt : List ℕ → ℕ → Section
-sectionAt s at =
-    pick (ltb (length s) (at + 2))
-    (Faulty CutOff)
-    (pick (ltb 256 (word s at))
-    (Faulty GroupCount)
-    (groupsRead (groupsFrom s (at + 2) 0 (word s at)) (word s at) (at + 2)))
+-- refusal 3
+unfoldable pub groupFault : ℕ → Group → Checked
+groupFault own group = pick (parentFits own (group .parent)) Fine (Fault Parent)
 
 -- refusals 5 and 6: the fields of one claim in order
 unfoldable pub claimFault : Claim → ℕ → ℕ → Checked
@@ -77,32 +82,47 @@ claimFault claim cards shops =
     (Fault NoSuchGroup)
     (pick (leb shops (claim .shop)) (Fault NoSuchGroup) (pick (ltb 1 (claim .kind)) (Fault Kind) Fine))
 
-abbrev pub orElse : Checked → Checked → Checked
-orElse Fine next = next
-orElse (Fault why) next = Fault why
-
--- refusal 1 of the claim records, then their fields
-unfoldable pub rowsFrom : List ℕ → ℕ → ℕ → ℕ → ℕ → Checked
-rowsFrom r cards shops c zero = Fine
-rowsFrom r cards shops c (suc left) =
-    pick (ltb (length r) (5 * c + 5))
+-- refusal 1 of the next record, then its fields, then the records behind it
+unfoldable pub recordsFrom : ℕ → ℕ → ℕ → (ℕ → Checked) → ℕ → ℕ → Checked
+recordsFrom size start width fault k zero = Fine
+recordsFrom size start width fault k (suc left) =
+    pick (ltb size (start + width * k + width))
     (Fault CutOff)
-    (orElse (claimFault (claimOf r c) cards shops) (rowsFrom r cards shops (suc c) left))
+    (orElse (fault k) (recordsFrom size start width fault (suc k) left))
 
-abbrev pub rowsRead : Checked → ℕ → ℕ → Section
-rowsRead Fine count start = Read count start (start + 5 * count)
-rowsRead (Fault why) count start = Faulty why
+abbrev pub groupsFrom : List ℕ → ℕ → ℕ → ℕ → Checked
+groupsFrom s start = recordsFrom (length s) start groupWidth (λ g. groupFault g (groupAt s start g))
 
--- refusals 1 and 4 of the claim count, then the records, "the part of the file that starts at its first record"
+abbrev pub rowsFrom : List ℕ → ℕ → ℕ → ℕ → ℕ → Checked
+rowsFrom r cards shops = recordsFrom (length r) 0 claimWidth (λ c. claimFault (claimAt r c) cards shops)
+
+--------------------------------------------------------------------------------
+-- The sections
+
+-- refusal 1 of a count, then its own refusal: 2 or 4
+unfoldable pub countFault : List ℕ → ℕ → ℕ → Refusal → Checked
+countFault s at most over =
+    pick (ltb (length s) (at + 2)) (Fault CutOff) (pick (ltb most (word s at)) (Fault over) Fine)
+
+abbrev pub sectionOf : Checked → ℕ → ℕ → ℕ → Section
+sectionOf Fine count start width = Read count start (start + width * count)
+sectionOf (Fault why) count start width = Faulty why
+
+abbrev pub sectionBy : List ℕ → ℕ → ℕ → Refusal → ℕ → Checked → Section
+sectionBy s at most over width checked = sectionOf (orElse (countFault s at most over) checked) (word s at) (at + 2) width
+
+-- one definition for cards and for shops
+unfoldable pub sectionAt : List ℕ → ℕ → Section
+sectionAt s at = sectionBy s at maxGroups GroupCount groupWidth (groupsFrom s (at + 2) 0 (word s at))
+
+-- the records are "the part of the file that starts at its first record"
 unfoldable pub claimsAt : List ℕ → ℕ → ℕ → ℕ → Section
 claimsAt s at cards shops =
-    pick (ltb (length s) (at + 2))
-    (Faulty CutOff)
-    (pick (ltb 512 (word s at))
-    (Faulty ClaimCount)
-    (rowsRead (rowsFrom (drop (at + 2) s) cards shops 0 (word s at)) (word s at) (at + 2)))
+    sectionBy s at maxRows ClaimCount claimWidth (rowsFrom (drop (at + 2) s) cards shops 0 (word s at))
 
--- the reading of a file with a faulty section
+--------------------------------------------------------------------------------
+-- The file
+
 abbrev pub refusedBy : Section → Reading
 refusedBy (Faulty why) = Refused why
 refusedBy (Read count start next) = Refused CutOff

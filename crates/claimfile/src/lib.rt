@@ -1,17 +1,25 @@
 // The claim file: its sections, the first fault in it, and its records.
 //
-// `read` says whether a file is accepted, with its counts and the places of its sections, or refused, and why.
-// `group_at` and `claim_at` read one record. Every public function takes any bytes; a byte past the end reads as 0.
+// `read` takes any bytes and says whether they are an accepted file, with its counts and the places of its sections, or why they
+// are refused. `group_of` and `claim_of` read one record of an accepted file. No other crate knows how wide a record is or where
+// its fields are.
 ghost use mathlib.Core.Path.{_≡_};
 ghost use Prim.Native.Nat.{_+_, _*_, _<_, _≤_};
-ghost use lib.ListN.{length, getD};
-ghost use Rattle.claimfile.specs.File.{word, groupOf, claimOf, groupsFrom, claimFault, rowsFrom, sectionAt, claimsAt, refusedBy, reading, numberOf};
+ghost use lib.ListN.{length};
+ghost use Rattle.theory.specs.Bounds.{maxGroups, maxRows};
+ghost use Rattle.claimfile.specs.File.{groupWidth, claimWidth, word, groupAt, claimAt, groupFault, claimFault};
+ghost use Rattle.claimfile.specs.File.{groupsFrom, rowsFrom, countFault, sectionOf, sectionAt, claimsAt, refusedBy, reading};
+ghost use Rattle.claimfile.specs.Day.{startOf, countOf, groupOf, claimOf, Sound};
+use theory::MAX_GROUPS;
+use theory::MAX_LIMIT;
+use theory::MAX_ROWS;
 
-pub const MAX_GROUPS: usize = 256;
-
-pub const MAX_CLAIMS: usize = 512;
-// The parent of a group at the top.
-pub const TOP: usize = 65535;
+// The parent of a group at the top: the greatest number of 16 bits.
+pub const TOP: usize = MAX_LIMIT;
+// How many bytes a group record has: parent, limit.
+const GROUP_WIDTH: usize = 4;
+// How many bytes a claim record has: card group, shop group, kind.
+const CLAIM_WIDTH: usize = 5;
 
 // Why a file is turned away: numbers 1 to 7 of document 01, in its order.
 pub enum Refusal {
@@ -25,13 +33,13 @@ pub enum Refusal {
 }
 
 // What the records of a section hold: no fault, or the first one.
-pub enum Checked {
+enum Checked {
     Fine,
     Fault(Refusal),
 }
 
 // A section that was read: how many records, where the first starts and what follows the last; or its first fault.
-pub enum Section {
+enum Section {
     Read {
         count: usize,
         start: usize,
@@ -72,96 +80,20 @@ fn wide(x: u8) -> usize
     x as usize
 }
 
-// The byte at a place.
-pub fn byte_at(file: &[u8], at: usize) -> u8
-    ensures { λ r. ⌜ r ≡ getD (now (file .entry)) at 0 ⌝ }
-{
-    if at < file.len() {
-        return file[at];
-    }
-    0
-}
-
 // The 16-bit number at a place, low byte first.
-pub fn u16_at(file: &[u8], at: usize) -> usize
+fn u16_at(file: &[u8], at: usize) -> usize
+    requires { ⌜ at + 2 ≤ length (now file) ⌝ }
     ensures { λ r. ⌜ (r ≡ word (now (file .entry)) at) × (r < 65536) ⌝ }
 {
-    if file.len() <= at {
-        return 0;
-    }
-    let low = wide(file[at]);
-    if file.len() - at < 2 {
-        return low;
-    }
-    low + 256 * wide(file[at + 1])
-}
-
-// The first fault of the group records that start at `start`.
-fn check_groups(file: &[u8], start: usize, count: usize) -> Checked
-    requires { ⌜ (start ≤ length (now file)) × (count ≤ 256) ⌝ }
-    ensures { λ r. ⌜ r ≡ groupsFrom (now (file .entry)) start 0 count ⌝ }
-{
-    let mut own = 0;
-    while own < count {
-        if file.len() - start < 4 * own + 4 {
-            return Checked::Fault(Refusal::CutOff);
-        }
-        let parent = u16_at(file, start + 4 * own);
-        if own <= parent {
-            if parent != TOP {
-                return Checked::Fault(Refusal::Parent);
-            }
-        }
-        own += 1;
-    }
-    Checked::Fine
-}
-
-// The group section, of cards or of shops, whose count stands at `at`.
-fn read_groups(file: &[u8], at: usize) -> Section
-    ensures { λ r. ⌜ r ≡ sectionAt (now (file .entry)) at ⌝ }
-{
-    let len = file.len();
-    if len < 2 {
-        return Section::Faulty(Refusal::CutOff);
-    }
-    if len - 2 < at {
-        return Section::Faulty(Refusal::CutOff);
-    }
-    let count = u16_at(file, at);
-    if MAX_GROUPS < count {
-        return Section::Faulty(Refusal::GroupCount);
-    }
-    let start = at + 2;
-    let checked = check_groups(file, start, count);
-    match checked {
-        Checked::Fault(why) => Section::Faulty(why),
-        Checked::Fine => Section::Read {
-            count,
-            start,
-            next: start + 4 * count,
-        },
-    }
+    wide(file[at]) + 256 * wide(file[at + 1])
 }
 
 // The group record with number `g` of the section whose records start at `start`.
-pub fn group_at(file: &[u8], start: usize, g: usize) -> Group
-    ensures { λ r. ⌜ (r ≡ groupOf (now (file .entry)) start g) × (r .parent < 65536) × (r .limit < 65536) ⌝ }
+fn group_at(file: &[u8], start: usize, g: usize) -> Group
+    requires { ⌜ start + groupWidth * g + groupWidth ≤ length (now file) ⌝ }
+    ensures { λ r. ⌜ (r ≡ groupAt (now (file .entry)) start g) × (r .parent < 65536) × (r .limit < 65536) ⌝ }
 {
-    let len = file.len();
-    if len <= start {
-        return Group {
-            parent: 0,
-            limit: 0,
-        };
-    }
-    if (len - start) / 4 < g {
-        return Group {
-            parent: 0,
-            limit: 0,
-        };
-    }
-    let at = start + 4 * g;
+    let at = start + GROUP_WIDTH * g;
     Group {
         parent: u16_at(file, at),
         limit: u16_at(file, at + 2),
@@ -169,22 +101,28 @@ pub fn group_at(file: &[u8], start: usize, g: usize) -> Group
 }
 
 // The claim record with number `c` of a claims section, given from its first record on.
-pub fn claim_at(rows: &[u8], c: usize) -> Claim
-    ensures { λ r. ⌜ (r ≡ claimOf (now (rows .entry)) c) × (r .card < 65536) × (r .shop < 65536) ⌝ }
+fn claim_at(rows: &[u8], c: usize) -> Claim
+    requires { ⌜ claimWidth * c + claimWidth ≤ length (now rows) ⌝ }
+    ensures { λ r. ⌜ r ≡ claimAt (now (rows .entry)) c ⌝ }
 {
-    if rows.len() / 5 < c {
-        return Claim {
-            card: 0,
-            shop: 0,
-            kind: 0,
-        };
-    }
-    let at = 5 * c;
+    let at = CLAIM_WIDTH * c;
     Claim {
         card: u16_at(rows, at),
         shop: u16_at(rows, at + 2),
-        kind: byte_at(rows, at + 4),
+        kind: rows[at + 4],
     }
+}
+
+// The first fault of the fields of the group with number `own`.
+fn check_group(own: usize, group: Group) -> Checked
+    ensures { λ r. ⌜ r ≡ groupFault own group ⌝ }
+{
+    if own <= group.parent {
+        if group.parent != TOP {
+            return Checked::Fault(Refusal::Parent);
+        }
+    }
+    Checked::Fine
 }
 
 // The first fault of one claim's fields, in their order.
@@ -203,14 +141,33 @@ fn check_claim(claim: Claim, cards: usize, shops: usize) -> Checked
     Checked::Fine
 }
 
+// The first fault of the group records that start at `start`.
+fn check_groups(file: &[u8], start: usize, count: usize) -> Checked
+    requires { ⌜ (start ≤ length (now file)) × (count ≤ maxGroups) ⌝ }
+    ensures { λ r. ⌜ r ≡ groupsFrom (now (file .entry)) start 0 count ⌝ }
+{
+    let mut own = 0;
+    while own < count {
+        if file.len() - start < GROUP_WIDTH * own + GROUP_WIDTH {
+            return Checked::Fault(Refusal::CutOff);
+        }
+        let checked = check_group(own, group_at(file, start, own));
+        let Checked::Fine = checked else {
+            return checked;
+        };
+        own += 1;
+    }
+    Checked::Fine
+}
+
 // The first fault of a claims section, given from its first record on.
 fn check_rows(rows: &[u8], count: usize, cards: usize, shops: usize) -> Checked
-    requires { ⌜ count ≤ 512 ⌝ }
+    requires { ⌜ count ≤ maxRows ⌝ }
     ensures { λ r. ⌜ r ≡ rowsFrom (now (rows .entry)) cards shops 0 count ⌝ }
 {
     let mut c = 0;
     while c < count {
-        if rows.len() < 5 * c + 5 {
+        if rows.len() < CLAIM_WIDTH * c + CLAIM_WIDTH {
             return Checked::Fault(Refusal::CutOff);
         }
         let checked = check_claim(claim_at(rows, c), cards, shops);
@@ -222,31 +179,67 @@ fn check_rows(rows: &[u8], count: usize, cards: usize, shops: usize) -> Checked
     Checked::Fine
 }
 
-// The claims section whose count stands at `at`.
-fn read_claims(file: &[u8], at: usize, cards: usize, shops: usize) -> Section
-    ensures { λ r. ⌜ r ≡ claimsAt (now (file .entry)) at cards shops ⌝ }
+// The first fault of the count that stands at `at`: it is not whole, or over the most, for which `over` is told.
+fn check_count(file: &[u8], at: usize, most: usize, over: Refusal) -> Checked
+    ensures { λ r. ⌜ r ≡ countFault (now (file .entry)) at most over ⌝ }
 {
     let len = file.len();
     if len < 2 {
-        return Section::Faulty(Refusal::CutOff);
+        return Checked::Fault(Refusal::CutOff);
     }
     if len - 2 < at {
-        return Section::Faulty(Refusal::CutOff);
+        return Checked::Fault(Refusal::CutOff);
     }
-    let count = u16_at(file, at);
-    if MAX_CLAIMS < count {
-        return Section::Faulty(Refusal::ClaimCount);
+    if most < u16_at(file, at) {
+        return Checked::Fault(over);
     }
-    let start = at + 2;
-    let checked = check_rows(&file[start..], count, cards, shops);
+    Checked::Fine
+}
+
+// The section with `count` records of a width from `start` on, by the check of its count and its records.
+fn section_of(checked: Checked, count: usize, start: usize, width: usize) -> Section
+    requires { ⌜ start + width * count < 18446744073709551616 ⌝ }
+    ensures { λ r. ⌜ r ≡ sectionOf checked count start width ⌝ }
+{
     match checked {
         Checked::Fault(why) => Section::Faulty(why),
         Checked::Fine => Section::Read {
             count,
             start,
-            next: start + 5 * count,
+            next: start + width * count,
         },
     }
+}
+
+// The group section, of cards or of shops, whose count stands at `at`.
+fn read_groups(file: &[u8], at: usize) -> Section
+    ensures { λ r. ⌜ r ≡ sectionAt (now (file .entry)) at ⌝ }
+{
+    let counted = check_count(file, at, MAX_GROUPS, Refusal::GroupCount);
+    let Checked::Fine = counted else {
+        return section_of(counted, 0, 0, GROUP_WIDTH);
+    };
+    let count = u16_at(file, at);
+    let start = at + 2;
+    section_of(check_groups(file, start, count), count, start, GROUP_WIDTH)
+}
+
+// The claims section whose count stands at `at`.
+fn read_claims(file: &[u8], at: usize, cards: usize, shops: usize) -> Section
+    ensures { λ r. ⌜ r ≡ claimsAt (now (file .entry)) at cards shops ⌝ }
+{
+    let counted = check_count(file, at, MAX_ROWS, Refusal::ClaimCount);
+    let Checked::Fine = counted else {
+        return section_of(counted, 0, 0, CLAIM_WIDTH);
+    };
+    let count = u16_at(file, at);
+    let start = at + 2;
+    section_of(
+        check_rows(&file[start..], count, cards, shops),
+        count,
+        start,
+        CLAIM_WIDTH,
+    )
 }
 
 // The reading of a file with a section that was not read.
@@ -307,17 +300,39 @@ pub fn read(file: &[u8]) -> Reading
     })
 }
 
-// The number of a refusal in document 01's table.
-pub fn number(why: Refusal) -> u32
-    ensures { λ r. ⌜ r ≡ numberOf why ⌝ }
+// Where the first group record of a side stands.
+fn start_of(layout: Layout, side: usize) -> usize
+    ensures { λ r. ⌜ r ≡ startOf layout side ⌝ }
 {
-    match why {
-        Refusal::CutOff => 1,
-        Refusal::GroupCount => 2,
-        Refusal::Parent => 3,
-        Refusal::ClaimCount => 4,
-        Refusal::NoSuchGroup => 5,
-        Refusal::Kind => 6,
-        Refusal::Trailing => 7,
+    if side == 0 {
+        return layout.card_at;
     }
+    layout.shop_at
+}
+
+// How many groups a side has: side 0 is card, side 1 is shop.
+pub fn groups_on(layout: Layout, side: usize) -> usize
+    ensures { λ r. ⌜ r ≡ countOf layout side ⌝ }
+{
+    if side == 0 {
+        return layout.cards;
+    }
+    layout.shops
+}
+
+// The record of group `g` of a side of an accepted file.
+pub fn group_of(file: &[u8], layout: Layout, side: usize, g: usize) -> Group
+    requires { ⌜ (Sound (now file) layout) × (g < countOf layout side) ⌝ }
+    ensures { λ r. ⌜ (r ≡ groupOf (now (file .entry)) layout side g) × (r .parent < 65536) × (r .limit < 65536) ⌝ }
+{
+    group_at(file, start_of(layout, side), g)
+}
+
+// The record of row `c` of an accepted file.
+pub fn claim_of(file: &[u8], layout: Layout, c: usize) -> Claim
+    requires { ⌜ (Sound (now file) layout) × (c < layout .rows) ⌝ }
+    ensures { λ r. ⌜ (r ≡ claimOf (now (file .entry)) layout c) × (r .card < layout .cards) × (r .shop < layout .shops) × (r .kind ≤ 1) ⌝ }
+{
+    let row_at = layout.row_at;
+    claim_at(&file[row_at..], c)
 }

@@ -1,21 +1,28 @@
 // The reader of claim files, a line a case: a name for the file, then what is told of it.
 mod build;
+mod records;
 mod tell;
 
 use build::day;
-use build::put;
-use build::space;
+use casebook::files::DAY_A;
+use casebook::files::DAY_B;
+use casebook::files::DAY_E;
+use casebook::files::EXAMPLE_1;
+use casebook::files::EXAMPLE_2;
+use casebook::files::EXAMPLE_3;
+use casebook::files::EXAMPLE_4;
+use casebook::files::EXAMPLE_5;
+use casebook::files::EXAMPLE_6;
+use casebook::files::EXAMPLE_7;
+use casebook::files::put;
+use casebook::files::space;
+use casebook::line::number;
+use casebook::line::text;
 use claimfile::TOP;
-use claimfile::claim_at;
-use claimfile::group_at;
+use records::records;
 use tell::beginnings;
-use tell::claim;
-use tell::group;
-use tell::number;
 use tell::show;
 use tell::show_first;
-use tell::text;
-ghost use Prim.Native.Nat.{_≤_};
 
 // A 16-bit number that is stored at a place of a file. A kind is one byte; the byte behind it is 0 in the edited file.
 struct Edit {
@@ -56,44 +63,31 @@ const NO_KIND: Edit = Edit { at: 34, to: 2 };
 const NEXT_NO_CARD: Edit = Edit { at: 35, to: 3 };
 
 const NEXT_NO_KIND: Edit = Edit { at: 39, to: 2 };
-// The largest number of its type.
-const FAR: usize = 18446744073709551615;
 
 // Document 01's examples and its day E.
 fn examples() {
-    show(b"example 1", b"\x00");
-    show(b"example 2", b"\x01\x01");
-    show(b"example 3", b"\x01\x00\x00\x00\x05\x00");
-    show(b"example 4", b"\x00\x00\x00\x00\x01\x02");
-    show(
-        b"example 5",
-        b"\x00\x00\x00\x00\x01\x00\x00\x00\x00\x00\x00",
-    );
-    show(
-        b"example 6",
-        b"\x01\x00\xff\xff\x01\x00\x01\x00\xff\xff\x01\x00\x01\x00\x00\x00\x00\x00\x02",
-    );
-    show(b"example 7", b"\x00\x00\x00\x00\x00\x00\x00");
-    show(b"day E", b"\x00\x00\x00\x00\x00\x00");
+    show(b"example 1", &EXAMPLE_1);
+    show(b"example 2", &EXAMPLE_2);
+    show(b"example 3", &EXAMPLE_3);
+    show(b"example 4", &EXAMPLE_4);
+    show(b"example 5", &EXAMPLE_5);
+    show(b"example 6", &EXAMPLE_6);
+    show(b"example 7", &EXAMPLE_7);
+    show(b"day E", &DAY_E);
 }
 
 // Day A: every beginning of it, and one byte too many.
 fn day_a() {
-    beginnings(
-        b"day A,",
-        b"\x02\x00\xff\xff\x01\x00\xff\xff\x01\x00\x02\x00\xff\xff\x01\x00\xff\xff\x01\x00\x03\x00\x00\x00\x00\x00\x01\x00\x00\x01\x00\x00\x01\x00\x00\x00\x00",
-    );
+    beginnings(b"day A,", &DAY_A);
     show(
         b"day A and a byte",
         b"\x02\x00\xff\xff\x01\x00\xff\xff\x01\x00\x02\x00\xff\xff\x01\x00\xff\xff\x01\x00\x03\x00\x00\x00\x00\x00\x01\x00\x00\x01\x00\x00\x01\x00\x00\x00\x00\x00",
     );
 }
 
-fn counted(name: &[u8], cards: usize, shops: usize, rows: usize)
-    requires { ⌜ (cards ≤ 257) × (shops ≤ 257) × (rows ≤ 513) ⌝ }
-{
+fn counted(name: &[u8], cards: usize, shops: usize, rows: usize) {
     let mut buf = space();
-    let n = day(&mut buf, cards, shops, rows);
+    let n = day(cards, shops, rows, &mut buf);
     show_first(name, &buf, n);
 }
 
@@ -110,16 +104,16 @@ fn counts() {
 
 fn one_byte_more() {
     let mut buf = space();
-    day(&mut buf, 256, 256, 512);
+    day(256, 256, 512, &mut buf);
     show_first(b"4615 bytes", &buf, 4615);
 }
 
 // The first `n` bytes of the edited file.
 fn edited(name: &[u8], one: Edit, other: Edit, n: usize) {
     let mut buf = space();
-    day(&mut buf, 3, 3, 2);
-    put(&mut buf, one.at, one.to);
-    put(&mut buf, other.at, other.to);
+    day(3, 3, 2, &mut buf);
+    put(one.at, one.to, &mut buf);
+    put(other.at, other.to, &mut buf);
     show_first(name, &buf, n);
 }
 
@@ -181,21 +175,17 @@ fn too_long() {
     edited(b"no fault, a byte more", NONE, NONE, 41);
 }
 
-// The records of a file, by the places of its sections.
-fn records(file: &[u8], rows: &[u8]) {
-    group(b"card group 0", group_at(file, 2, 0));
-    group(b"card group 1", group_at(file, 2, 1));
-    group(b"shop group 0", group_at(file, 12, 0));
-    claim(b"claim 0", claim_at(rows, 0));
-    claim(b"claim 1", claim_at(rows, 1));
-}
-
-// A byte past the end reads as 0, however far.
-fn past_the_end() {
-    group(b"group at the end", group_at(b"\x01\x02\x03", 0, 0));
-    group(b"group past the end", group_at(b"\x01", FAR, FAR));
-    claim(b"claim at the end", claim_at(b"\x01\x02\x03\x04", 0));
-    claim(b"claim past the end", claim_at(b"\x01", FAR));
+// Records with limits of one and of two bytes, a parent that is a group and one at the top, and both kinds.
+fn all_records() {
+    records(
+        b"\x02\x00\xff\xff\x02\x01\x00\x00\xff\xff\x01\x00\xff\xff\x00\x00\x02\x00\x01\x00\x00\x00\x01\x00\x00\x00\x00\x00",
+    );
+    text(b"day B\n");
+    records(&DAY_B);
+    text(b"day E\n");
+    records(&DAY_E);
+    text(b"example 7");
+    records(&EXAMPLE_7);
 }
 
 fn main() {
@@ -209,9 +199,5 @@ fn main() {
     cut_off();
     two_faults();
     too_long();
-    records(
-        b"\x02\x00\xff\xff\x02\x01\x00\x00\xff\xff\x01\x00\xff\xff\x00\x00\x02\x00\x01\x00\x00\x00\x01\x00\x00\x00\x00\x00",
-        b"\x01\x00\x00\x00\x01\x00\x00\x00\x00\x00",
-    );
-    past_the_end();
+    all_records();
 }

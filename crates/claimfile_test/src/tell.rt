@@ -1,19 +1,11 @@
 // What is told of a file, a line each.
-use claimfile::Claim;
-use claimfile::Group;
+use casebook::line::number;
+use casebook::line::refused;
+use casebook::line::text;
 use claimfile::Layout;
 use claimfile::Reading;
-use claimfile::Refusal;
-use libc::STDOUT_FILENO;
-
-pub fn text(words: &[u8]) {
-    io::write_all(STDOUT_FILENO, words);
-}
-
-pub fn number(n: usize) {
-    text(b" ");
-    io::print_decimal(STDOUT_FILENO, n as u64);
-}
+use claimfile::read;
+use refusal::Reason;
 
 fn accepted(layout: Layout) {
     text(b": accepted");
@@ -23,17 +15,11 @@ fn accepted(layout: Layout) {
     text(b"\n");
 }
 
-fn refused(why: Refusal) {
-    text(b": refused");
-    number(claimfile::number(why) as usize);
-    text(b"\n");
-}
-
 fn reading(file: &[u8]) {
-    let told = claimfile::read(file);
+    let told = read(file);
     match told {
         Reading::Accepted(layout) => accepted(layout),
-        Reading::Refused(why) => refused(why),
+        Reading::Refused(why) => refused(Reason::File(why)),
     }
 }
 
@@ -64,24 +50,4 @@ pub fn beginnings(name: &[u8], file: &[u8]) {
         cut(name, file, n);
         n += 1;
     }
-}
-
-pub fn group(name: &[u8], record: Group) {
-    text(name);
-    text(b": parent");
-    number(record.parent);
-    text(b" limit");
-    number(record.limit);
-    text(b"\n");
-}
-
-pub fn claim(name: &[u8], record: Claim) {
-    text(name);
-    text(b": card");
-    number(record.card);
-    text(b" shop");
-    number(record.shop);
-    text(b" kind");
-    number(record.kind as usize);
-    text(b"\n");
 }

@@ -1,7 +1,9 @@
 -- Laws of what settle answers and leaves.
---   closed-closes          what closing leaves in the lent parts, said of the whole buffers
+--   closed-closes          what closing leaves in the lent parts of the buffers, said of the whole buffers
+--   settles-short          the answer for a day where a buffer is too short
 --   lent-parts             the first cells of buffers that are long enough have just the needed lengths
---   settles-refused settles-short settles-closed    the three answers of settle
+--   settles-closed         the answer for a day where they are
+--   settles-refused settles-accepted       the answer for a file, by its reading
 use mathlib.Core.Path.{_≡_, refl, sym, ap, _∙_, subst}
 use mathlib.Core.Logic.{inl, inr}
 use mathlib.Core.List.{List, _++_}
@@ -11,6 +13,7 @@ use lib.ListN.{length, take, drop}
 use lib.Seq.{length-take-le}
 use Rattle.theory.specs.Incidence.{worth}
 use Rattle.theory.specs.Matroid.{row}
+use Rattle.theory.specs.Network.{Network, Instance}
 use Rattle.theory.specs.Priority.{weightOf}
 use Rattle.theory.specs.Best.{Agree}
 use Rattle.theory.specs.Sheet.{Certified}
@@ -20,146 +23,142 @@ use Rattle.theory.proofs.BestLaws.{kept-agree}
 use Rattle.theory.proofs.LevelLaws.{certified-cong}
 use Rattle.claimfile.specs.declared.Layout.{Layout}
 use Rattle.claimfile.specs.declared.Refusal.{Refusal}
-use Rattle.claimfile.specs.declared.Reading.{Reading}
-use Rattle.claimfile.specs.declared.Reading.the-variants.{Accepted, Refused}
+use Rattle.claimfile.specs.declared.Reading.the-variants as reading-is
 use Rattle.claimfile.specs.File.{reading}
-use Rattle.claimfile.specs.Day.{groupsOf, limitOf, kindOf, networkOf}
+use Rattle.claimfile.specs.Day.{networkOf, instanceOf, Sound}
+use Rattle.claimfile.proofs.AcceptedLaws.{one-layout, one-refusal, not-both}
+use Rattle.refusal.specs.declared.Reason.the-variants.{File, Short}
 use Rattle.closing.specs.declared.Totals.{Totals}
 use Rattle.closing.specs.declared.Settled.{Settled}
-use Rattle.closing.specs.declared.Settled.the-variants.{Closed, File, Short}
-use Rattle.closing.specs.Settle.{needed, Enough, Lacks, markOf, claimMarkOf, Lent, ClosedBy, Closes, Settles}
+use Rattle.closing.specs.declared.Settled.the-variants.{Closed, Refused}
+use Rattle.closing.specs.Settle.{needed, Enough, Lacks, markOf, claimMarkOf, Lent, ClosedBy, Closes, SettlesOn, Settles}
 use Rattle.closing.proofs.PartLaws.{front-at, front-rest}
 
-module _ (s : List ℕ) (l : Layout) (ch sheet scr ch′ sheet′ scr′ : List ℕ) (part : Lent s l ch′ sheet′ scr′) where
-  -- the whole choice and the whole sheet, when their parts have come back
-  abbrev choice : List ℕ
-  choice = ch′ ++ drop (l .rows) ch
+--------------------------------------------------------------------------------
+-- The whole buffers, when their parts have come back
 
-  abbrev marks : List ℕ
-  marks = sheet′ ++ drop (needed l) sheet
+module _
+    (i : Instance) (ch sheet t ch′ sheet′ t′ : List ℕ) (choices : length ch′ ≡ i .net .rows)
+    (sheets : length sheet′ ≡ needed (i .net)) (cells : length t′ ≡ 8 * needed (i .net))
+  where
+    abbrev choice : List ℕ
+    choice = ch′ ++ drop (i .net .rows) ch
 
-  abbrev weight : ℕ → ℕ
-  weight = weightOf (l .rows) (kindOf s l)
+    abbrev marks : List ℕ
+    marks = sheet′ ++ drop (needed (i .net)) sheet
 
-  same-choice : Agree (l .rows) (row choice) (row ch′)
-  same-choice = front-at ch ch′ (l .rows) (part .choices)
+    abbrev weight : ℕ → ℕ
+    weight = weightOf (i .net .rows) (i .kind)
 
-  same-worth : worth (l .rows) weight (row ch′) ≡ worth (l .rows) weight (row choice)
-  same-worth = sum-cong (l .rows) (λ c h. ap (λ x. x * weight c) (sym (same-choice c h)))
+    same-choice : Agree (i .net .rows) (row choice) (row ch′)
+    same-choice = front-at ch ch′ (i .net .rows) choices
 
-  certified-front :
-      Certified (networkOf s l) (limitOf s l) weight (l .rows + 1) (row ch′) (markOf sheet′) (claimMarkOf l sheet′) →
-      Certified (networkOf s l) (limitOf s l) weight (l .rows + 1) (row choice) (markOf marks) (claimMarkOf l marks)
-  certified-front C =
-      let D = certified-cong (networkOf s l) (limitOf s l) weight (l .rows + 1) (row ch′) (markOf sheet′)
-      (claimMarkOf l sheet′) (markOf marks) (claimMarkOf l marks)
-      (λ v h. front-at sheet sheet′ (needed l) (part .sheets) v (omega arith))
-      (λ c h. front-at sheet sheet′ (needed l) (part .sheets) (groupsOf l + c) (omega arith)) C in
-      record {
-        group-range = D .group-range;
-        row-range = D .row-range;
-        cover = D .cover;
-        equal = D .equal ∙ same-worth;
-      }
+    same-worth : worth (i .net .rows) weight (row ch′) ≡ worth (i .net .rows) weight (row choice)
+    same-worth = sum-cong (i .net .rows) (λ c h. ap (λ x. x * weight c) (sym (same-choice c h)))
 
-  pub closed-closes :
-      (t : Totals) → Enough l ch sheet scr → ClosedBy s l ch′ sheet′ scr′ t →
-      Closes s l ch sheet scr (ch′ ++ drop (l .rows) ch) (sheet′ ++ drop (needed l) sheet)
-      (scr′ ++ drop (8 * needed l) scr) t
-  closed-closes t enough C =
-      let whole = certified-front (C .settlement .certified) in
-      record {
-        best = λ c h. same-choice c h ∙ C .settlement .best c h;
-        earned = C .earned ∙ ap (λ f. f 1) (kept-agree (l .rows) (kindOf s l) (agree-sym (l .rows) same-choice));
-        kept = C .kept ∙ sum-cong (l .rows) (agree-sym (l .rows) same-choice);
-        total = C .total ∙ same-worth ∙ sym (whole .equal);
-        certified = whole;
-        clear = λ i h. front-at scr scr′ (8 * needed l) (part .cells) i h ∙ C .clear i;
-        choice-rest = front-rest ch ch′ (l .rows) (part .choices) (enough .choices);
-        sheet-rest = front-rest sheet sheet′ (needed l) (part .sheets) (enough .sheets);
-        scratch-rest = front-rest scr scr′ (8 * needed l) (part .cells) (enough .cells);
-      }
+    certified-front :
+        Certified (i .net) (i .limit) weight (i .net .rows + 1) (row ch′) (markOf sheet′) (claimMarkOf (i .net) sheet′) →
+        Certified (i .net) (i .limit) weight (i .net .rows + 1) (row choice) (markOf marks) (claimMarkOf (i .net) marks)
+    certified-front C =
+        let D = certified-cong (i .net) (i .limit) weight (i .net .rows + 1) (row ch′) (markOf sheet′)
+        (claimMarkOf (i .net) sheet′) (markOf marks) (claimMarkOf (i .net) marks)
+        (λ v h. front-at sheet sheet′ (needed (i .net)) sheets v (omega arith))
+        (λ c h. front-at sheet sheet′ (needed (i .net)) sheets (i .net .groups + c) (omega arith)) C in
+        record {
+          group-range = D .group-range;
+          row-range = D .row-range;
+          cover = D .cover;
+          equal = D .equal ∙ same-worth;
+        }
+
+    pub closed-closes :
+        (a : Totals) → Enough (i .net) ch sheet t → ClosedBy i ch′ sheet′ t′ a →
+        Closes i ch sheet t choice marks (t′ ++ drop (8 * needed (i .net)) t) a
+    closed-closes a enough C =
+        let whole = certified-front (C .settlement .certified) in
+        record {
+          best = λ c h. same-choice c h ∙ C .settlement .best c h;
+          earned = C .earned ∙ ap (λ f. f 1) (kept-agree (i .net .rows) (i .kind) (agree-sym (i .net .rows) same-choice));
+          kept = C .kept ∙ sum-cong (i .net .rows) (agree-sym (i .net .rows) same-choice);
+          total = C .total ∙ same-worth ∙ sym (whole .equal);
+          certified = whole;
+          clear = λ k h. front-at t t′ (8 * needed (i .net)) cells k h ∙ C .clear k;
+          choice-rest = front-rest ch ch′ (i .net .rows) choices (enough .choices);
+          sheet-rest = front-rest sheet sheet′ (needed (i .net)) sheets (enough .sheets);
+          scratch-rest = front-rest t t′ (8 * needed (i .net)) cells (enough .cells);
+        }
 
 --------------------------------------------------------------------------------
--- The answers
+-- The answers for a day
 
--- a file is accepted with one layout, or refused
-one-layout : (x : Reading) (k l : Layout) → x ≡ Accepted k → x ≡ Accepted l → k ≡ l
-one-layout x k l p q = cc
+-- the buffers are long enough, or one is too short
+not-enough : {A : Type 0} (d : Network) (ch sheet t : List ℕ) → Enough d ch sheet t → Lacks d ch sheet t → A
+not-enough d ch sheet t e (inl h) = absurd (omega (arith, e .choices))
+not-enough d ch sheet t e (inr (inl h)) = absurd (omega (arith, e .sheets))
+not-enough d ch sheet t e (inr (inr h)) = absurd (omega (arith, e .cells))
 
-one-refusal : (x : Reading) (v w : Refusal) → x ≡ Refused v → x ≡ Refused w → v ≡ w
-one-refusal x v w p q = cc
-
-not-both : {A : Type 0} (x : Reading) (l : Layout) (why : Refusal) → x ≡ Accepted l → x ≡ Refused why → A
-not-both x l why p q =
-    let z : _≡_ {A = ℕ} 0 1 = cc in
-    absurd (omega arith)
-
--- and the buffers are long enough, or one is too short
-not-enough : {A : Type 0} (l : Layout) (ch sheet scr : List ℕ) → Enough l ch sheet scr → Lacks l ch sheet scr → A
-not-enough l ch sheet scr e (inl h) = absurd (omega (arith, e .choices))
-not-enough l ch sheet scr e (inr (inl h)) = absurd (omega (arith, e .sheets))
-not-enough l ch sheet scr e (inr (inr h)) = absurd (omega (arith, e .cells))
-
-module _ (s ch sheet scr : List ℕ) where
-  pub settles-refused :
-      (why : Refusal) (r : Settled) → reading s ≡ Refused why → r ≡ File why → Settles s ch sheet scr ch sheet scr r
-  settles-refused why r is e = record {
-    refused = λ v p. (
-      e ∙ ap File (one-refusal (reading s) why v is p),
-      record { choices = refl; sheets = refl; cells = refl },
-    );
-    short = λ l p lacks. not-both (reading s) l why p is;
-    closed = λ l p enough. not-both (reading s) l why p is;
+module _ (i : Instance) (ch sheet t : List ℕ) where
+  pub settles-short : (r : Settled) → Lacks (i .net) ch sheet t → r ≡ Refused Short → SettlesOn i ch sheet t ch sheet t r
+  settles-short r lacks e = record {
+    short = λ h. (e, record { choices = refl; sheets = refl; cells = refl });
+    closed = λ enough. not-enough (i .net) ch sheet t enough lacks;
   }
 
-  module _ (l : Layout) (is : reading s ≡ Accepted l) where
-    pub settles-short : (r : Settled) → Lacks l ch sheet scr → r ≡ Short → Settles s ch sheet scr ch sheet scr r
-    settles-short r lacks e = record {
-      refused = λ why p. not-both (reading s) l why is p;
-      short = λ k p h. (e, record { choices = refl; sheets = refl; cells = refl });
-      closed = λ k p enough.
-          not-enough k ch sheet scr enough
-          (subst (λ (x : Layout). Lacks x ch sheet scr) (one-layout (reading s) l k is p) lacks);
-    }
+  closes-needed :
+      (ch′ sheet′ t′ : List ℕ) → length ch′ ≡ i .net .rows → length sheet′ ≡ needed (i .net) →
+      length t′ ≡ 8 * needed (i .net) → (a : Totals) → Enough (i .net) ch sheet t → ClosedBy i ch′ sheet′ t′ a →
+      SettlesOn i ch sheet t (ch′ ++ drop (i .net .rows) ch) (sheet′ ++ drop (needed (i .net)) sheet)
+      (t′ ++ drop (8 * needed (i .net)) t) (Closed a)
+  closes-needed ch′ sheet′ t′ choices sheets cells a enough C = record {
+    short = λ lacks. not-enough (i .net) ch sheet t enough lacks;
+    closed = λ h. (a, refl, closed-closes i ch sheet t ch′ sheet′ t′ choices sheets cells a enough C);
+  }
 
-    settles-closes :
-        (t : Totals) (ch′ sheet′ scr′ : List ℕ) → Enough l ch sheet scr → Closes s l ch sheet scr ch′ sheet′ scr′ t →
-        Settles s ch sheet scr ch′ sheet′ scr′ (Closed t)
-    settles-closes t ch′ sheet′ scr′ enough C = record {
-      refused = λ why p. not-both (reading s) l why is p;
-      short = λ k p lacks.
-          not-enough l ch sheet scr enough
-          (subst (λ (x : Layout). Lacks x ch sheet scr) (one-layout (reading s) k l p is) lacks);
-      closed = λ k p h. (
-        t,
-        refl,
-        subst (λ (x : Layout). Closes s x ch sheet scr ch′ sheet′ scr′ t) (one-layout (reading s) l k is p) C,
-      );
-    }
+  -- m numbers are the needed ones
+  module _ (m : ℕ) (e : m ≡ needed (i .net)) where
+    pub settles-closed :
+        (ch′ sheet′ t′ : List ℕ) → length ch′ ≡ length (take (i .net .rows) ch) → length sheet′ ≡ length (take m sheet) →
+        length t′ ≡ length (take (8 * m) t) → (a : Totals) → Enough (i .net) ch sheet t → ClosedBy i ch′ sheet′ t′ a →
+        SettlesOn i ch sheet t (ch′ ++ drop (i .net .rows) ch) (sheet′ ++ drop m sheet) (t′ ++ drop (8 * m) t) (Closed a)
+    settles-closed ch′ sheet′ t′ choices sheets cells a enough C =
+        subst
+        (λ (n : ℕ).
+        SettlesOn i ch sheet t (ch′ ++ drop (i .net .rows) ch) (sheet′ ++ drop n sheet) (t′ ++ drop (8 * n) t) (Closed a))
+        (sym e)
+        (closes-needed ch′ sheet′ t′ (choices ∙ length-take-le (i .net .rows) ch (enough .choices))
+        (sheets ∙ length-take-le m sheet (omega (arith, enough .sheets)) ∙ e)
+        (cells ∙ length-take-le (8 * m) t (omega (arith, enough .cells)) ∙ ap (λ (n : ℕ). 8 * n) e) a enough C)
 
-    module _ (enough : Enough l ch sheet scr) where
-      pub lent-parts : Lent s l (take (l .rows) ch) (take (needed l) sheet) (take (8 * needed l) scr)
-      lent-parts = record {
-        accepted = is;
-        choices = length-take-le (l .rows) ch (enough .choices);
-        sheets = length-take-le (needed l) sheet (enough .sheets);
-        cells = length-take-le (8 * needed l) scr (enough .cells);
-      }
+pub lent-parts :
+    (s : List ℕ) (l : Layout) (ch sheet t : List ℕ) (m : ℕ) → m ≡ needed (networkOf s l) → Sound s l →
+    Enough (networkOf s l) ch sheet t → Lent s l (take (l .rows) ch) (take m sheet) (take (8 * m) t)
+lent-parts s l ch sheet t m e sound enough = record {
+  sound = sound;
+  choices = length-take-le (l .rows) ch (enough .choices);
+  sheets = length-take-le m sheet (omega (arith, enough .sheets)) ∙ e;
+  cells = length-take-le (8 * m) t (omega (arith, enough .cells)) ∙ ap (λ (n : ℕ). 8 * n) e;
+}
 
-      pub settles-closed :
-          (ch′ sheet′ scr′ : List ℕ) → length ch′ ≡ length (take (l .rows) ch) →
-          length sheet′ ≡ length (take (needed l) sheet) → length scr′ ≡ length (take (8 * needed l) scr) →
-          (t : Totals) → ClosedBy s l ch′ sheet′ scr′ t →
-          Settles s ch sheet scr (ch′ ++ drop (l .rows) ch) (sheet′ ++ drop (needed l) sheet)
-          (scr′ ++ drop (8 * needed l) scr) (Closed t)
-      settles-closed ch′ sheet′ scr′ choices sheets cells t C =
-          settles-closes t _ _ _ enough
-          (closed-closes s l ch sheet scr ch′ sheet′ scr′
-          (record {
-            accepted = is;
-            choices = choices ∙ lent-parts .choices;
-            sheets = sheets ∙ lent-parts .sheets;
-            cells = cells ∙ lent-parts .cells;
-          })
-          t enough C)
+--------------------------------------------------------------------------------
+-- The answers for a file
+
+module _ (s ch sheet t : List ℕ) where
+  pub settles-refused :
+      (why : Refusal) (r : Settled) → reading s ≡ reading-is.Refused why → r ≡ Refused (File why) →
+      Settles s ch sheet t ch sheet t r
+  settles-refused why r is e = record {
+    refused = λ v p. (
+      e ∙ ap (λ (x : Refusal). Refused (File x)) (one-refusal (reading s) why v is p),
+      record { choices = refl; sheets = refl; cells = refl },
+    );
+    settled = λ l p. not-both (reading s) l why p is;
+  }
+
+  pub settles-accepted :
+      (ch′ sheet′ t′ : List ℕ) (r : Settled) (l : Layout) → reading s ≡ reading-is.Accepted l →
+      SettlesOn (instanceOf s l) ch sheet t ch′ sheet′ t′ r → Settles s ch sheet t ch′ sheet′ t′ r
+  settles-accepted ch′ sheet′ t′ r l is S = record {
+    refused = λ why p. not-both (reading s) l why is p;
+    settled = λ k p.
+        subst (λ (x : Layout). SettlesOn (instanceOf s x) ch sheet t ch′ sheet′ t′ r) (one-layout (reading s) l k is p) S;
+  }

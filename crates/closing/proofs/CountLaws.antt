@@ -2,7 +2,7 @@
 --   counts-none            no row is counted
 --   counts-out counts-in   one row more: it is left out, or kept
 --   two-worth              with two kinds, N rows and e of the k kept ones earned, the kept rows weigh N * e + k
---   counts-small           the total is below 2 ^ 32
+--   counts-small           with at most 512 rows the total is below 2 ^ 32
 --   counted-closed         what is left when a settled day is counted and its scratch is zero
 use mathlib.Core.Path.{_≡_, refl, sym, ap, _∙_}
 use mathlib.Core.List.{List}
@@ -14,18 +14,14 @@ use lib.ListN.{getD}
 use Rattle.theory.specs.Sum.{sum, same}
 use Rattle.theory.specs.Incidence.{size, worth}
 use Rattle.theory.specs.Matroid.{row}
+use Rattle.theory.specs.Bounds.{maxRows, cellBound}
+use Rattle.theory.specs.Network.{Instance}
 use Rattle.theory.specs.Priority.{kept, weightOf}
 use Rattle.theory.proofs.SumLaws.{sum-next, same-eq, same-ne}
 use Rattle.theory.proofs.PriorityLaws.{value, worth-kept, kept-total}
-use Rattle.claimfile.specs.declared.Layout.{Layout}
-use Rattle.claimfile.specs.declared.Reading.the-variants.{Accepted}
-use Rattle.claimfile.specs.File.{reading}
-use Rattle.claimfile.specs.Day.{kindOf}
-use Rattle.claimfile.proofs.AcceptedLaws.{accepted-sound}
 use Rattle.closing.specs.declared.Totals.{Totals}
 use Rattle.closing.specs.declared.Counts.{Counts}
 use Rattle.closing.specs.Settle.{Settlement, CountsUpTo, ClosedBy}
-use Rattle.closing.proofs.SettleLaws.{kinds-two}
 
 --------------------------------------------------------------------------------
 -- Row by row
@@ -42,20 +38,20 @@ kept-next : (n : ℕ) (kind X : ℕ → ℕ) (k : ℕ) → kept (n + 1) kind X k
 unfolding kept
 kept-next n kind X k = sum-next n (λ c. X c * same (kind c) k)
 
-module _ (s : List ℕ) (l : Layout) (ch : List ℕ) where
-  pub counts-none : CountsUpTo s l ch 0 (record { earned = 0; kept = 0 })
+module _ (i : Instance) (ch : List ℕ) where
+  pub counts-none : CountsUpTo i ch 0 (record { earned = 0; kept = 0 })
   unfolding kept sum
   counts-none = record { earned = refl; kept = refl; few-earned = omega arith; few-kept = omega arith }
 
-  module _ (n : ℕ) (r : Counts) (so-far : CountsUpTo s l ch n r) where
-    pub counts-out : row ch n ≡ 0 → CountsUpTo s l ch (n + 1) r
+  module _ (n : ℕ) (r : Counts) (so-far : CountsUpTo i ch n r) where
+    pub counts-out : row ch n ≡ 0 → CountsUpTo i ch (n + 1) r
     counts-out out = record {
       earned =
           omega (
             arith,
             so-far .earned,
-            kept-next n (kindOf s l) (row ch) 1,
-            ap (λ x. x * same (kindOf s l n) 1) out,
+            kept-next n (i .kind) (row ch) 1,
+            ap (λ x. x * same (i .kind n) 1) out,
           );
       kept = omega (arith, so-far .kept, sum-next n (row ch), out);
       few-earned = omega (arith, so-far .few-earned);
@@ -63,16 +59,16 @@ module _ (s : List ℕ) (l : Layout) (ch : List ℕ) where
     }
 
     pub counts-in :
-        (t : Counts) → t .earned ≡ r .earned + kindOf s l n → t .kept ≡ r .kept + 1 → kindOf s l n ≤ 1 → row ch n ≡ 1 →
-        CountsUpTo s l ch (n + 1) t
-    counts-in t earned kept small in-it = record {
+        (a : Counts) → a .earned ≡ r .earned + i .kind n → a .kept ≡ r .kept + 1 → i .kind n ≤ 1 → row ch n ≡ 1 →
+        CountsUpTo i ch (n + 1) a
+    counts-in a earned kept small in-it = record {
       earned =
           omega (
             arith,
             so-far .earned,
-            kept-next n (kindOf s l) (row ch) 1,
-            ap (λ x. x * same (kindOf s l n) 1) in-it,
-            same-one (kindOf s l n) small,
+            kept-next n (i .kind) (row ch) 1,
+            ap (λ x. x * same (i .kind n) 1) in-it,
+            same-one (i .kind n) small,
           );
       kept = omega (arith, so-far .kept, sum-next n (row ch), in-it);
       few-earned = omega (arith, so-far .few-earned);
@@ -100,31 +96,30 @@ two-worth N kind ranged X =
       digits N (kept N kind X 0) (kept N kind X 1),
     )
 
-module _ (s : List ℕ) (l : Layout) (is : reading s ≡ Accepted l) where
-  module _ (ch : List ℕ) (r : Counts) (all : CountsUpTo s l ch (l .rows) r) where
-    counts-total : l .rows * r .earned + r .kept ≡ worth (l .rows) (weightOf (l .rows) (kindOf s l)) (row ch)
+module _ (i : Instance) (two : (c : ℕ) → c < i .net .rows → i .kind c < 2) where
+  module _ (ch : List ℕ) (r : Counts) (all : CountsUpTo i ch (i .net .rows) r) where
+    counts-total : i .net .rows * r .earned + r .kept ≡ worth (i .net .rows) (weightOf (i .net .rows) (i .kind)) (row ch)
     counts-total =
         omega (
           arith,
-          two-worth (l .rows) (kindOf s l) (kinds-two s l is) (row ch),
-          ap (λ x. l .rows * x) (all .earned),
+          two-worth (i .net .rows) (i .kind) two (row ch),
+          ap (λ x. i .net .rows * x) (all .earned),
           all .kept,
         )
 
-    pub counts-small : l .rows * r .earned + r .kept < 4294967296
-    counts-small =
-        let few = accepted-sound s l is .rows-most in
+    pub counts-small : i .net .rows ≤ maxRows → i .net .rows * r .earned + r .kept < cellBound
+    counts-small few =
         omega (
           arith,
-          mul-le-mul {n₁ = l .rows} {m₁ = r .earned} {n₂ = 512} {m₂ = 512} few (omega (arith, all .few-earned)),
+          mul-le-mul {n₁ = i .net .rows} {m₁ = r .earned} {n₂ = maxRows} {m₂ = maxRows} few (omega (arith, all .few-earned)),
           all .few-kept,
         )
 
   pub counted-closed :
-      (ch sheet scr : List ℕ) (r : Counts) → ((i : ℕ) → getD scr i 0 ≡ 0) → Settlement s l ch sheet →
-      CountsUpTo s l ch (l .rows) r → (t : Totals) → t .earned ≡ r .earned → t .kept ≡ r .kept →
-      t .total ≡ l .rows * r .earned + r .kept → ClosedBy s l ch sheet scr t
-  counted-closed ch sheet scr r clear settlement all t earned kept total = record {
+      (ch sheet t : List ℕ) (r : Counts) → ((k : ℕ) → getD t k 0 ≡ 0) → Settlement i ch sheet →
+      CountsUpTo i ch (i .net .rows) r → (a : Totals) → a .earned ≡ r .earned → a .kept ≡ r .kept →
+      a .total ≡ i .net .rows * r .earned + r .kept → ClosedBy i ch sheet t a
+  counted-closed ch sheet t r clear settlement all a earned kept total = record {
     settlement = settlement;
     earned = earned ∙ all .earned;
     kept = kept ∙ all .kept;

@@ -1,7 +1,10 @@
 -- What settle promises, as theorems that a reader can cite: the number that it tells of every input, and demand 3 of every file
--- that it closes, whatever the lent memory held. `Y` stands for any choice of the file's rows that fits both sides.
+-- that it closes, whatever the lent memory held: of any instance that is formed and has two kinds, as the instance of an accepted file
+-- is (`day-formed`, `kinds-two`, SettleLaws). `Y` stands for any choice of the rows that fits both sides.
 --   number-told            the number told is that of the file's first fault, else 8 for short buffers, else none
---   ClosedDay closed-day   where settle answers Closed, the file is accepted and what it leaves is as `Closes` says
+--   one-total not-refused  an answer is one: two totals are the same, and a closed day is not refused
+--   closed-on              where a day is closed, the buffers are long enough and what is left is as `Closes` says
+--   ClosedDay closed-day   where settle answers Closed, the file is accepted, and the same holds of its day
 --   kept-choice            the kept choice in document 01's words: all that follows is of it
 --   choice-fits            the choice fits both sides
 --   most-earned            no Y has more earned rows than are answered
@@ -15,14 +18,14 @@
 use mathlib.Core.Path.{_≡_, refl, ap, _∙_, subst}
 use mathlib.Core.Logic.{_⊎_, inl, inr}
 use mathlib.Core.List.{List}
-use Prim.Native.Nat.{ℕ, _+_, _*_, _≤_}
+use Prim.Native.Nat.{ℕ, _+_, _*_, _≤_, _<_}
 use native.Mathlib.Decide.{decLt}
 use native.Mathlib.Omega.{arith}
 use lib.ListN.{length}
 use borrow.Author.Tests.{lt-ltb, le-ltb}
 use Rattle.theory.specs.Incidence.{Covers, size, worth}
 use Rattle.theory.specs.Matroid.{row}
-use Rattle.theory.specs.Network.{FitsBoth, Choice, onBoth}
+use Rattle.theory.specs.Network.{Network, Instance, Formed, FitsBoth, Choice, onBoth}
 use Rattle.theory.specs.Priority.{kept, weightOf}
 use Rattle.theory.specs.Best.{First, Agree, Kept, bestChoice}
 use Rattle.theory.proofs.SumLaws.{sum-cong}
@@ -31,174 +34,170 @@ use Rattle.theory.proofs.BestLaws.{kept-agree}
 use Rattle.theory.proofs.LevelLaws.{certified-heaviest}
 use Rattle.theory.proofs.ChoiceLaws as choice
 use Rattle.claimfile.specs.declared.Layout.{Layout}
-use Rattle.claimfile.specs.declared.Refusal.{Refusal}
 use Rattle.claimfile.specs.declared.Reading.{Reading}
-use Rattle.claimfile.specs.declared.Reading.the-variants.{Accepted, Refused}
+use Rattle.claimfile.specs.declared.Reading.the-variants as reading-is
 use Rattle.claimfile.specs.File.{reading}
-use Rattle.claimfile.specs.Day.{groupsOf, limitOf, kindOf, networkOf}
+use Rattle.claimfile.specs.Day.{networkOf, instanceOf}
+use Rattle.refusal.specs.declared.Reason.{Reason}
+use Rattle.refusal.specs.declared.Reason.the-variants.{File, Short}
 use Rattle.closing.specs.declared.Totals.{Totals}
 use Rattle.closing.specs.declared.Settled.{Settled}
-use Rattle.closing.specs.declared.Settled.the-variants.{Closed, File, Short}
-use Rattle.closing.specs.Settle.{settledNumber, numberFor, needed, Enough, Lacks, markOf, claimMarkOf, Closes, Settles}
+use Rattle.closing.specs.declared.Settled.the-variants.{Closed, Refused}
+use Rattle.closing.specs.Settle.{numberOf, numberFor, needed, Enough, Lacks, markOf, claimMarkOf, Closes, SettlesOn, Settles}
 use Rattle.closing.proofs.CountLaws.{two-worth}
-use Rattle.closing.proofs.SettleLaws.{kinds-two, day-formed}
 
 --------------------------------------------------------------------------------
 -- Every input
 
-pub record ClosedDay (s ch sheet scr ch′ sheet′ scr′ : List ℕ) (t : Totals) : Type 0 where
+pub record ClosedDay (s ch sheet t ch′ sheet′ t′ : List ℕ) (a : Totals) : Type 0 where
   pub layout : Layout
-  pub accepted : reading s ≡ Accepted layout
-  pub enough : Enough layout ch sheet scr
-  pub closes : Closes s layout ch sheet scr ch′ sheet′ scr′ t
+  pub accepted : reading s ≡ reading-is.Accepted layout
+  pub enough : Enough (networkOf s layout) ch sheet t
+  pub closes : Closes (instanceOf s layout) ch sheet t ch′ sheet′ t′ a
 
-one-total : (x : Settled) (t u : Totals) → x ≡ Closed t → x ≡ Closed u → t ≡ u
-one-total x t u p q = cc
+pub one-total : (r : Settled) (a b : Totals) → r ≡ Closed a → r ≡ Closed b → a ≡ b
+one-total r a b p q = cc
 
-not-file : {A : Type 0} (x : Settled) (why : Refusal) (t : Totals) → x ≡ File why → x ≡ Closed t → A
-not-file x why t p q =
+pub not-refused : {A : Type 0} (r : Settled) (why : Reason) (a : Totals) → r ≡ Refused why → r ≡ Closed a → A
+not-refused r why a p q =
     let z : _≡_ {A = ℕ} 0 1 = cc in
     absurd (omega arith)
 
-not-short : {A : Type 0} (x : Settled) (t : Totals) → x ≡ Short → x ≡ Closed t → A
-not-short x t p q =
-    let z : _≡_ {A = ℕ} 0 1 = cc in
-    absurd (omega arith)
-
-enough-or-not : (l : Layout) (ch sheet scr : List ℕ) → Enough l ch sheet scr ⊎ Lacks l ch sheet scr
-enough-or-not l ch sheet scr =
-    elim (decLt (length ch) (l .rows)) [
+pub enough-or-not : (d : Network) (ch sheet t : List ℕ) → Enough d ch sheet t ⊎ Lacks d ch sheet t
+enough-or-not d ch sheet t =
+    elim (decLt (length ch) (d .rows)) [
       | yes h ↦ inr (inl h)
       | no a ↦
-          elim (decLt (length sheet) (needed l)) [
+          elim (decLt (length sheet) (needed d)) [
             | yes h ↦ inr (inr (inl h))
             | no b ↦
-                elim (decLt (length scr) (8 * needed l)) [
+                elim (decLt (length t) (8 * needed d)) [
                   | yes h ↦ inr (inr (inr h))
                   | no c ↦ inl (record { choices = omega arith; sheets = omega arith; cells = omega arith })
                 ]
           ]
     ]
 
-module _
-    (s ch sheet scr ch′ sheet′ scr′ : List ℕ) (r : Settled) (t : Totals) (S : Settles s ch sheet scr ch′ sheet′ scr′ r)
-    (is : r ≡ Closed t)
-  where
-    judged : (x : Reading) → reading s ≡ x → ClosedDay s ch sheet scr ch′ sheet′ scr′ t
-    judged (Refused why) p = not-file r why t (S .refused why p .0) is
-    judged (Accepted l) p =
-        elim (enough-or-not l ch sheet scr) [
-          | inl e ↦
-              let closed = S .closed l p e in
-              record {
-                layout = l;
-                accepted = p;
-                enough = e;
-                closes =
-                    subst (Closes s l ch sheet scr ch′ sheet′ scr′) (one-total r (closed .0) t (closed .1) is)
-                    (closed .2);
-              }
-          | inr h ↦ not-short r t (S .short l p h .0) is
-        ]
+-- where a day is closed, the buffers are long enough and all is as `Closes` says
+pub closed-on :
+    (i : Instance) (ch sheet t ch′ sheet′ t′ : List ℕ) (r : Settled) (a : Totals) →
+    SettlesOn i ch sheet t ch′ sheet′ t′ r → r ≡ Closed a →
+    Enough (i .net) ch sheet t × Closes i ch sheet t ch′ sheet′ t′ a
+closed-on i ch sheet t ch′ sheet′ t′ r a S is =
+    elim (enough-or-not (i .net) ch sheet t) [
+      | inl e ↦
+          let closed = S .closed e in
+          (e, subst (Closes i ch sheet t ch′ sheet′ t′) (one-total r (closed .0) a (closed .1) is) (closed .2))
+      | inr h ↦ not-refused r Short a (S .short h .0) is
+    ]
 
-    pub closed-day : ClosedDay s ch sheet scr ch′ sheet′ scr′ t
+module _
+    (s ch sheet t ch′ sheet′ t′ : List ℕ) (r : Settled) (a : Totals) (S : Settles s ch sheet t ch′ sheet′ t′ r)
+    (is : r ≡ Closed a)
+  where
+    judged : (x : Reading) → reading s ≡ x → ClosedDay s ch sheet t ch′ sheet′ t′ a
+    judged (reading-is.Refused why) p = not-refused r (File why) a (S .refused why p .0) is
+    judged (reading-is.Accepted l) p =
+        let closed = closed-on (instanceOf s l) ch sheet t ch′ sheet′ t′ r a (S .settled l p) is in
+        record { layout = l; accepted = p; enough = closed .0; closes = closed .1 }
+
+    pub closed-day : ClosedDay s ch sheet t ch′ sheet′ t′ a
     closed-day = judged (reading s) refl
 
-module _ (s ch sheet scr ch′ sheet′ scr′ : List ℕ) (r : Settled) (S : Settles s ch sheet scr ch′ sheet′ scr′ r) where
-  number-of : (x : Reading) → reading s ≡ x → settledNumber r ≡ numberFor x ch sheet scr
-  number-of (Refused why) p = ap settledNumber (S .refused why p .0)
-  number-of (Accepted l) p =
+module _ (s ch sheet t ch′ sheet′ t′ : List ℕ) (r : Settled) (S : Settles s ch sheet t ch′ sheet′ t′ r) where
+  number-of : (x : Reading) → reading s ≡ x → numberOf r ≡ numberFor s x ch sheet t
+  number-of (reading-is.Refused why) p = ap numberOf (S .refused why p .0)
+  number-of (reading-is.Accepted l) p =
+      let D = S .settled l p in
       elim (decLt (length ch) (l .rows)) [
-        | yes h ↦ rw (lt-ltb _ _ h) (ap settledNumber (S .short l p (inl h) .0))
+        | yes h ↦ rw (lt-ltb _ _ h) (ap numberOf (D .short (inl h) .0))
         | no a ↦
             let choices : l .rows ≤ length ch = omega arith in
-            elim (decLt (length sheet) (needed l)) [
-              | yes h ↦ rw (le-ltb _ _ choices, lt-ltb _ _ h) (ap settledNumber (S .short l p (inr (inl h)) .0))
+            elim (decLt (length sheet) (needed (networkOf s l))) [
+              | yes h ↦ rw (le-ltb _ _ choices, lt-ltb _ _ h) (ap numberOf (D .short (inr (inl h)) .0))
               | no b ↦
-                  let sheets : needed l ≤ length sheet = omega arith in
-                  elim (decLt (length scr) (8 * needed l)) [
+                  let sheets : needed (networkOf s l) ≤ length sheet = omega arith in
+                  elim (decLt (length t) (8 * needed (networkOf s l))) [
                     | yes h ↦
-                        rw (le-ltb _ _ choices, le-ltb _ _ sheets, lt-ltb _ _ h)
-                        (ap settledNumber (S .short l p (inr (inr h)) .0))
-                    | no d ↦
-                        let cells : 8 * needed l ≤ length scr = omega arith in
+                        rw (le-ltb _ _ choices, le-ltb _ _ sheets, lt-ltb _ _ h) (ap numberOf (D .short (inr (inr h)) .0))
+                    | no c ↦
+                        let cells : 8 * needed (networkOf s l) ≤ length t = omega arith in
                         rw (le-ltb _ _ choices, le-ltb _ _ sheets, le-ltb _ _ cells)
-                        (ap settledNumber
-                        (S .closed l p (record { choices = choices; sheets = sheets; cells = cells }) .1))
+                        (ap numberOf (D .closed (record { choices = choices; sheets = sheets; cells = cells }) .1))
                   ]
             ]
       ]
 
-  pub number-told : settledNumber r ≡ numberFor (reading s) ch sheet scr
+  pub number-told : numberOf r ≡ numberFor s (reading s) ch sheet t
   number-told = number-of (reading s) refl
 
 --------------------------------------------------------------------------------
 -- A closed file
 
 module _
-    (s : List ℕ) (l : Layout) (is : reading s ≡ Accepted l) (ch sheet scr ch′ sheet′ scr′ : List ℕ) (t : Totals)
-    (C : Closes s l ch sheet scr ch′ sheet′ scr′ t)
+    (i : Instance) (formed : Formed (i .net)) (two : (c : ℕ) → c < i .net .rows → i .kind c < 2)
+    (ch sheet t ch′ sheet′ t′ : List ℕ) (a : Totals) (C : Closes i ch sheet t ch′ sheet′ t′ a)
   where
-    pub kept-choice : Kept (l .rows) (kindOf s l) (FitsBoth (networkOf s l) (limitOf s l)) (row ch′)
-    kept-choice = choice.choice-kept (networkOf s l) (limitOf s l) (kindOf s l) (kinds-two s l is) (C .best)
+    pub kept-choice : Kept (i .net .rows) (i .kind) (FitsBoth (i .net) (i .limit)) (row ch′)
+    kept-choice = choice.choice-kept (i .net) (i .limit) (i .kind) two (C .best)
 
-    pub choice-fits : Choice (networkOf s l) (limitOf s l) (row ch′)
+    pub choice-fits : Choice (i .net) (i .limit) (row ch′)
     choice-fits = record { bits = kept-choice .bits; fits = kept-choice .fits }
 
     pub only-choice :
-        (Y : ℕ → ℕ) → Kept (l .rows) (kindOf s l) (FitsBoth (networkOf s l) (limitOf s l)) Y → Agree (l .rows) Y (row ch′)
+        (Y : ℕ → ℕ) → Kept (i .net .rows) (i .kind) (FitsBoth (i .net) (i .limit)) Y → Agree (i .net .rows) Y (row ch′)
     only-choice Y k =
-        agree-trans (l .rows) (choice.kept-choice (networkOf s l) (limitOf s l) (kindOf s l) (kinds-two s l is) k)
-        (agree-sym (l .rows) (C .best))
+        agree-trans (i .net .rows) (choice.kept-choice (i .net) (i .limit) (i .kind) two k)
+        (agree-sym (i .net .rows) (C .best))
 
     pub best-earned :
-        t .earned
-        ≡ kept (l .rows) (kindOf s l) (row (bestChoice (networkOf s l) (limitOf s l) 2 (kindOf s l))) 1
-    best-earned = C .earned ∙ ap (λ f. f 1) (kept-agree (l .rows) (kindOf s l) (C .best))
+        a .earned
+        ≡ kept (i .net .rows) (i .kind) (row (bestChoice (i .net) (i .limit) 2 (i .kind))) 1
+    best-earned = C .earned ∙ ap (λ f. f 1) (kept-agree (i .net .rows) (i .kind) (C .best))
 
-    pub best-rows : t .kept ≡ size (l .rows) (row (bestChoice (networkOf s l) (limitOf s l) 2 (kindOf s l)))
-    best-rows = C .kept ∙ sum-cong (l .rows) (C .best)
+    pub best-rows : a .kept ≡ size (i .net .rows) (row (bestChoice (i .net) (i .limit) 2 (i .kind)))
+    best-rows = C .kept ∙ sum-cong (i .net .rows) (C .best)
 
-    pub total-worth : t .total ≡ worth (l .rows) (weightOf (l .rows) (kindOf s l)) (row ch′)
+    pub total-worth : a .total ≡ worth (i .net .rows) (weightOf (i .net .rows) (i .kind)) (row ch′)
     total-worth = C .total ∙ C .certified .equal
 
     pub best-total :
-        t .total
-        ≡ worth (l .rows) (weightOf (l .rows) (kindOf s l)) (row (bestChoice (networkOf s l) (limitOf s l) 2 (kindOf s l)))
+        a .total
+        ≡ worth (i .net .rows) (weightOf (i .net .rows) (i .kind)) (row (bestChoice (i .net) (i .limit) 2 (i .kind)))
     best-total =
-        total-worth ∙ sum-cong (l .rows) (λ c h. ap (λ (x : ℕ). x * weightOf (l .rows) (kindOf s l) c) (C .best c h))
+        total-worth ∙ sum-cong (i .net .rows) (λ c h. ap (λ (x : ℕ). x * weightOf (i .net .rows) (i .kind) c) (C .best c h))
 
-    pub total-counts : t .total ≡ l .rows * t .earned + t .kept
+    pub total-counts : a .total ≡ i .net .rows * a .earned + a .kept
     total-counts =
         omega (
           arith,
           total-worth,
-          two-worth (l .rows) (kindOf s l) (kinds-two s l is) (row ch′),
-          ap (λ (n : ℕ). l .rows * n) (C .earned),
+          two-worth (i .net .rows) (i .kind) two (row ch′),
+          ap (λ (n : ℕ). i .net .rows * n) (C .earned),
           C .kept,
         )
 
     pub covered :
-        Covers (l .rows) (groupsOf l) (onBoth (networkOf s l)) (markOf sheet′) (claimMarkOf l sheet′)
-        (weightOf (l .rows) (kindOf s l))
+        Covers (i .net .rows) (i .net .groups) (onBoth (i .net)) (markOf sheet′) (claimMarkOf (i .net) sheet′)
+        (weightOf (i .net .rows) (i .kind))
     covered = C .certified .cover
 
-    module _ (Y : ℕ → ℕ) (fits : Choice (networkOf s l) (limitOf s l) Y) where
-      pub most-earned : kept (l .rows) (kindOf s l) Y 1 ≤ t .earned
+    module _ (Y : ℕ → ℕ) (fits : Choice (i .net) (i .limit) Y) where
+      pub most-earned : kept (i .net .rows) (i .kind) Y 1 ≤ a .earned
       most-earned = omega (arith, kept-choice .earned Y (fits .bits) (fits .fits), C .earned)
 
-      pub sheet-bounds : worth (l .rows) (weightOf (l .rows) (kindOf s l)) Y ≤ t .total
+      pub sheet-bounds : worth (i .net .rows) (weightOf (i .net .rows) (i .kind)) Y ≤ a .total
       sheet-bounds =
           omega (
             arith,
             total-worth,
-            certified-heaviest (networkOf s l) (day-formed s l is) (limitOf s l) (weightOf (l .rows) (kindOf s l))
-                (l .rows + 1) (row ch′) (markOf sheet′) (claimMarkOf l sheet′) (C .certified) Y fits,
+            certified-heaviest (i .net) formed (i .limit) (weightOf (i .net .rows) (i .kind))
+                (i .net .rows + 1) (row ch′) (markOf sheet′) (claimMarkOf (i .net) sheet′) (C .certified) Y fits,
           )
 
-      module _ (earned : kept (l .rows) (kindOf s l) Y 1 ≡ t .earned) where
-        pub most-rows : size (l .rows) Y ≤ t .kept
+      module _ (earned : kept (i .net .rows) (i .kind) Y 1 ≡ a .earned) where
+        pub most-rows : size (i .net .rows) Y ≤ a .kept
         most-rows = omega (arith, kept-choice .rows Y (fits .bits) (fits .fits) (earned ∙ C .earned), C .kept)
 
-        pub first-rows : size (l .rows) Y ≡ t .kept → Agree (l .rows) (row ch′) Y ⊎ First (l .rows) (row ch′) Y
+        pub first-rows : size (i .net .rows) Y ≡ a .kept → Agree (i .net .rows) (row ch′) Y ⊎ First (i .net .rows) (row ch′) Y
         first-rows rows = kept-choice .first Y (fits .bits) (fits .fits) (earned ∙ C .earned) (rows ∙ C .kept)

@@ -1,20 +1,19 @@
 // Settling a claim file: the best choice, and the sheet of marks that shows that no choice is better.
+//
+// `settle` takes any bytes and any buffers. `settle_on` does the same for a file that is accepted with a known layout.
 ghost use mathlib.Core.Path.{_≡_};
 ghost use Prim.Native.Nat.{_+_, _*_, _≤_, _<_};
-ghost use lib.ListN.{length};
-ghost use Rattle.claimfile.specs.declared.Reading.the-variants.{Accepted};
-ghost use Rattle.claimfile.specs.File.{reading};
-ghost use Rattle.tables.specs.Tables.{shapeOf};
-ghost use Rattle.closing.specs.Settle.{settledNumber, refusedBy, Countable, CountsUpTo, Lent, Settlement, ClosedBy, Settles};
+ghost use Rattle.theory.specs.Bounds.{maxGroups, maxRows};
+ghost use Rattle.claimfile.specs.Day.{groupsOf, instanceOf, Sound};
+ghost use Rattle.closing.specs.Settle.{Countable, CountsUpTo, Lent, Settlement, ClosedBy, SettlesOn, Settles};
 use claimfile::Layout;
 use claimfile::Reading;
-use claimfile::Refusal;
-use claimfile::claim_at;
-use claimfile::number;
+use claimfile::claim_of;
 use claimfile::read;
-use residual::Shape;
-use solver::clear::clear;
+use refusal::Reason;
+use residual::clear::clear;
 use solver::solve::solve;
+use tables::write::shape_of;
 use tables::write::write_tables;
 
 // What a closed day comes to: how many kept rows are earned, how many rows are kept, and the sheet's total.
@@ -26,8 +25,7 @@ pub struct Totals {
 
 pub enum Settled {
     Closed(Totals),
-    File(Refusal),
-    Short,
+    Refused(Reason),
 }
 
 // How many of the rows so far are kept, and how many of those are earned.
@@ -36,16 +34,15 @@ pub struct Counts {
     pub kept: usize,
 }
 
-// The counts with row c.
-fn count_row(file: &[u8], layout: Layout, choice: &[u8], c: usize, counts: Counts) -> Counts
-    requires { ⌜ (Countable (now file) layout (now choice)) × (c < layout .rows) × CountsUpTo (now file) layout (now choice) c counts ⌝ }
-    ensures { λ r. ⌜ CountsUpTo (now (file .entry)) layout (now (choice .entry)) (c + 1) r ⌝ }
+// The counts with row `c`.
+fn count_row(file: &[u8], layout: Layout, c: usize, counts: Counts, choice: &[u8]) -> Counts
+    requires { ⌜ (Countable (now file) layout (now choice)) × (c < layout .rows) × CountsUpTo (instanceOf (now file) layout) (now choice) c counts ⌝ }
+    ensures { λ r. ⌜ CountsUpTo (instanceOf (now (file .entry)) layout) (now (choice .entry)) (c + 1) r ⌝ }
 {
     if choice[c] != 1 {
         return counts;
     }
-    let row_at = layout.row_at;
-    let claim = claim_at(&file[row_at..], c);
+    let claim = claim_of(file, layout, c);
     Counts {
         earned: counts.earned + claim.kind as usize,
         kept: counts.kept + 1,
@@ -54,38 +51,22 @@ fn count_row(file: &[u8], layout: Layout, choice: &[u8], c: usize, counts: Count
 
 fn count_rows(file: &[u8], layout: Layout, choice: &[u8]) -> Counts
     requires { ⌜ Countable (now file) layout (now choice) ⌝ }
-    ensures { λ r. ⌜ CountsUpTo (now (file .entry)) layout (now (choice .entry)) (layout .rows) r ⌝ }
+    ensures { λ r. ⌜ CountsUpTo (instanceOf (now (file .entry)) layout) (now (choice .entry)) (layout .rows) r ⌝ }
 {
     let rows = layout.rows;
     let mut counts = Counts { earned: 0, kept: 0 };
     let mut c = 0;
     while c < rows {
-        counts = count_row(file, layout, choice, c, counts);
+        counts = count_row(file, layout, c, counts, choice);
         c += 1;
     }
     counts
 }
 
-fn shape_of(layout: Layout) -> Shape
-    requires { ⌜ (layout .cards ≤ 256) × (layout .shops ≤ 256) × (layout .rows ≤ 512) ⌝ }
-    ensures { λ r. ⌜ r ≡ shapeOf layout ⌝ }
-{
-    let cards = layout.cards;
-    let rows = layout.rows;
-    Shape {
-        cards,
-        groups: cards + layout.shops,
-        rows,
-        free: 0,
-        toll: rows + 1,
-        fresh: 0,
-    }
-}
-
 // Leaves the best choice and the marks in buffers of just the needed lengths.
 fn decide(file: &[u8], layout: Layout, choice: &mut [u8], sheet: &mut [u32], scratch: &mut [u32])
     requires { ⌜ Lent (now file) layout (now choice) (now sheet) (now scratch) ⌝ }
-    ensures { λ _. ⌜ Settlement (now (file .entry)) layout (now (choice .exit)) (now (sheet .exit)) ⌝ }
+    ensures { λ _. ⌜ Settlement (instanceOf (now (file .entry)) layout) (now (choice .exit)) (now (sheet .exit)) ⌝ }
 {
     // with no row there is nothing to choose, and the scratch may be too short for the tables
     if layout.rows == 0 {
@@ -93,8 +74,8 @@ fn decide(file: &[u8], layout: Layout, choice: &mut [u8], sheet: &mut [u32], scr
         return;
     }
     let sh = shape_of(layout);
-    write_tables(file, layout, scratch, sh);
-    solve(scratch, sheet, choice, sh);
+    write_tables(file, layout, sh, scratch);
+    solve(sh, choice, sheet, scratch);
 }
 
 // Closes an accepted file in buffers of just the needed lengths.
@@ -106,7 +87,7 @@ fn close(
     scratch: &mut [u32],
 ) -> Totals
     requires { ⌜ Lent (now file) layout (now choice) (now sheet) (now scratch) ⌝ }
-    ensures { λ r. ⌜ ClosedBy (now (file .entry)) layout (now (choice .exit)) (now (sheet .exit)) (now (scratch .exit)) r ⌝ }
+    ensures { λ r. ⌜ ClosedBy (instanceOf (now (file .entry)) layout) (now (choice .exit)) (now (sheet .exit)) (now (scratch .exit)) r ⌝ }
 {
     decide(file, layout, choice, sheet, scratch);
     clear(scratch);
@@ -121,36 +102,36 @@ fn close(
     }
 }
 
-// The answer to a file that is not accepted.
-fn refused_by(reading: Reading) -> Settled
-    ensures { λ r. ⌜ r ≡ refusedBy reading ⌝ }
+// How many numbers the sheet needs: a mark for each group and each row.
+fn marks_of(layout: Layout) -> usize
+    requires { ⌜ (layout .cards ≤ maxGroups) × (layout .shops ≤ maxGroups) × (layout .rows ≤ maxRows) ⌝ }
+    ensures { λ r. ⌜ (r ≡ groupsOf layout + layout .rows) × (r ≤ 2 * maxGroups + maxRows) ⌝ }
 {
-    match reading {
-        Reading::Refused(why) => Settled::File(why),
-        Reading::Accepted(_) => Settled::Short,
-    }
+    layout.cards + layout.shops + layout.rows
 }
 
-// Settles a file: keeps the best choice, leaves the marks in the sheet, and clears the scratch. The lent buffers are a choice of N
-// bytes, a sheet of groups + N numbers and scratch of 8 × (groups + N) numbers, where N is the number of claims.
-pub fn settle(file: &[u8], choice: &mut [u8], sheet: &mut [u32], scratch: &mut [u32]) -> Settled
-    ensures { λ r. ⌜ Settles (now (file .entry)) (now (choice .entry)) (now (sheet .entry)) (now (scratch .entry)) (now (choice .exit)) (now (sheet .exit)) (now (scratch .exit)) r ⌝ }
+// Settles an accepted file: 8 where a buffer is too short, else the best choice, the marks and a cleared scratch.
+pub fn settle_on(
+    file: &[u8],
+    layout: Layout,
+    choice: &mut [u8],
+    sheet: &mut [u32],
+    scratch: &mut [u32],
+) -> Settled
+    requires { ⌜ Sound (now file) layout ⌝ }
+    ensures { λ r. ⌜ SettlesOn (instanceOf (now (file .entry)) layout) (now (choice .entry)) (now (sheet .entry)) (now (scratch .entry)) (now (choice .exit)) (now (sheet .exit)) (now (scratch .exit)) r ⌝ }
 {
-    let reading = read(file);
-    let Reading::Accepted(layout) = reading else {
-        return refused_by(reading);
-    };
     let rows = layout.rows;
-    let marks = layout.cards + layout.shops + rows;
+    let marks = marks_of(layout);
     let cells = 8 * marks;
     if choice.len() < rows {
-        return Settled::Short;
+        return Settled::Refused(Reason::Short);
     }
     if sheet.len() < marks {
-        return Settled::Short;
+        return Settled::Refused(Reason::Short);
     }
     if scratch.len() < cells {
-        return Settled::Short;
+        return Settled::Refused(Reason::Short);
     }
     Settled::Closed(close(
         file,
@@ -161,13 +142,14 @@ pub fn settle(file: &[u8], choice: &mut [u8], sheet: &mut [u32], scratch: &mut [
     ))
 }
 
-// The number of a refusal in document 01's table, 0 where the file is closed.
-pub fn settled_number(settled: Settled) -> u32
-    ensures { λ r. ⌜ r ≡ settledNumber settled ⌝ }
+// Settles a file: keeps the best choice, leaves the marks in the sheet, and clears the scratch. The lent buffers are a choice of N
+// bytes, a sheet of groups + N numbers and scratch of 8 × (groups + N) numbers, where N is the number of claims.
+pub fn settle(file: &[u8], choice: &mut [u8], sheet: &mut [u32], scratch: &mut [u32]) -> Settled
+    ensures { λ r. ⌜ Settles (now (file .entry)) (now (choice .entry)) (now (sheet .entry)) (now (scratch .entry)) (now (choice .exit)) (now (sheet .exit)) (now (scratch .exit)) r ⌝ }
 {
-    match settled {
-        Settled::Closed(_) => 0,
-        Settled::File(why) => number(why),
-        Settled::Short => 8,
+    let reading = read(file);
+    match reading {
+        Reading::Refused(why) => Settled::Refused(Reason::File(why)),
+        Reading::Accepted(layout) => settle_on(file, layout, choice, sheet, scratch),
     }
 }

@@ -10,14 +10,14 @@ use Rattle.theory.specs.Network.{onSide, onBoth, fitsBoth}
 use Rattle.theory.specs.Matroid.{selections, greatest, rank}
 use Rattle.theory.specs.Priority.{kept, weightOf, more}
 use Rattle.theory.specs.Best.{nothing, search, best, bestChoice}
-use Rattle.claimfile.specs.File.{groupsFrom, sectionAt, claimFault, rowsFrom, claimsAt, reading}
+use Rattle.claimfile.specs.File.{groupFault, claimFault, recordsFrom, countFault, sectionAt, claimsAt, reading}
 use Rattle.claimfile.specs.Day.{parentOf, limitOf, cardNode, shopNode}
 use Rattle.days.specs.Days.{days}
 use Rattle.days.specs.Worked.{worked, stated}
 
 pub days-hold : map worked days ≡ map stated days
 unfolding
-    groupsFrom sectionAt claimFault rowsFrom claimsAt reading parentOf limitOf cardNode shopNode
+    groupFault claimFault recordsFrom countFault sectionAt claimsAt reading parentOf limitOf cardNode shopNode
     sum is same every steps walk chain load fits charge onSide onBoth fitsBoth
     selections greatest rank kept weightOf more nothing search best bestChoice ℕ-discrete decLt
 days-hold = refl

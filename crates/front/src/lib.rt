@@ -2,26 +2,36 @@
 use libc::STDIN_FILENO;
 use libc::STDOUT_FILENO;
 use printout::print_day;
+use theory::MAX_GROUPS;
+use theory::MAX_ROWS;
 ghost use mathlib.Core.Path.{_≡_};
+ghost use Prim.Native.Nat.{_+_, _*_};
 ghost use lib.ListN.{length};
+ghost use Rattle.theory.specs.Bounds.{maxGroups, maxRows};
 
-// The largest day has 512 claims and 512 groups.
-fn choice_buffer() -> [u8; 512]
-    ensures { λ r. ⌜ 512 ≡ length r ⌝ }
+// The lengths that the largest day needs.
+const CHOICE: usize = MAX_ROWS;
+
+const SHEET: usize = 2 * MAX_GROUPS + MAX_ROWS;
+
+const SCRATCH: usize = 8 * SHEET;
+
+fn choice_buffer() -> [u8; CHOICE]
+    ensures { λ r. ⌜ maxRows ≡ length r ⌝ }
 {
-    [0; 512]
+    [0; CHOICE]
 }
 
-fn sheet_buffer() -> [u32; 1024]
-    ensures { λ r. ⌜ 1024 ≡ length r ⌝ }
+fn sheet_buffer() -> [u32; SHEET]
+    ensures { λ r. ⌜ 2 * maxGroups + maxRows ≡ length r ⌝ }
 {
-    [0; 1024]
+    [0; SHEET]
 }
 
-fn scratch_buffer() -> [u32; 8192]
-    ensures { λ r. ⌜ 8192 ≡ length r ⌝ }
+fn scratch_buffer() -> [u32; SCRATCH]
+    ensures { λ r. ⌜ 8 * (2 * maxGroups + maxRows) ≡ length r ⌝ }
 {
-    [0; 8192]
+    [0; SCRATCH]
 }
 
 // The longest text has 512 lines of at most 18 characters, and two more.

@@ -1,10 +1,10 @@
--- Laws of the counts of a section.
+-- Laws of the counts of a side.
 --   moved                      the counts after one cell has grown
 --   zeros                      the counts at the start
---   Counting                   after c rows each group counts the selected ones of them that name it
---   counting-start counting-step counting-inside counting-end  at the start, at the next row, and with all rows
---   counted-named counted-begun    the selected rows of a file, counted at the groups that they name
---   passing-inside passing-small passed-on     what came to one group is passed on
+--   Counting                   after c rows each group counts the selected ones of them that hang at it
+--   counting-start counting-small counting-step counting-end   at the start, at the next row, and with all rows
+--   counted-begun              the selected rows of a file, counted at the groups that they name
+--   passing-small passed-on    what came to one group is passed on
 --   Rising                     after the groups from g on have passed on what came to them
 --   rising-start rising-step rising-end    at the start, at the next group, and with all groups
 --   rising-passes              the next group can pass on what came to it
@@ -16,9 +16,10 @@ use mathlib.Core.Logic.{_⊎_, inl, inr}
 use Prim.Native.Nat.{ℕ, suc, _+_, _*_, min, _≤_, _<_}
 use native.Mathlib.Decide.{ℕ-discrete, decLt}
 use native.Mathlib.Omega.{arith}
-use lib.ListN.{length, set, replicate, length-replicate, getD-replicate, List·getD-eq-default}
+use lib.ListN.{length, set, length-set, replicate, length-replicate, getD-replicate, List·getD-eq-default}
 use lib.Dec.{leb}
 use lib.Seq.{getD-set-same, getD-set-other}
+use Rattle.theory.specs.Bounds.{maxGroups, maxRows}
 use Rattle.theory.specs.Sum.{same}
 use Rattle.theory.specs.Incidence.{Selection}
 use Rattle.theory.specs.Matroid.{row}
@@ -26,17 +27,17 @@ use Rattle.theory.specs.Rise.{own, Risen}
 use Rattle.theory.proofs.SumLaws.{same-self, same-ne}
 use Rattle.theory.proofs.LandLaws.{own-start, own-next, own-small}
 use Rattle.theory.proofs.RiseLaws.{risen-start, risen-step, risen-small, risen-rank, risen-fits, risen-over}
-use Rattle.claimfile.specs.Day.{claims}
+use Rattle.claimfile.specs.Day.{countOf, Sound}
 use Rattle.claimfile.specs.declared.Layout.{Layout}
-use Rattle.limits.specs.declared.Groups.{Groups}
+use Rattle.claimfile.proofs.DayLaws.{side-most}
 use Rattle.limits.specs.declared.Found.{Found}
 use Rattle.limits.specs.Answers.{Ready}
-use Rattle.limits.specs.Side.{sideOf, parentIn, limitIn, hangs, Zero, Counted, Passes, PassedOn, Named, Begun, Rose, Placed}
-use Rattle.limits.proofs.ChainLaws.{section-rooted}
-use Rattle.limits.proofs.SideLaws.{side-most, side-node, side-records}
+use Rattle.limits.specs.Side.{parentIn, limitIn, hangs, Zero, Counted, Held, Passes, PassedOn, Named, Begun, Rose, Placed}
+use Rattle.limits.proofs.ChainLaws.{side-rooted}
+use Rattle.limits.proofs.SideLaws.{side-node}
 
 -- x more in cell g
-pub moved : (k : List ℕ) (g x h : ℕ) → g < length k → row (set k g (row k g + x)) h ≡ row k h + x * same g h
+moved : (k : List ℕ) (g x h : ℕ) → g < length k → row (set k g (row k g + x)) h ≡ row k h + x * same g h
 moved k g x h l =
     elim (ℕ-discrete g h) [
       | yes e ↦ rw (← e, getD-set-same k g (row k g + x) 0 l, same-self) (omega arith)
@@ -44,7 +45,7 @@ moved k g x h l =
     ]
 
 -- the counts at the start
-pub zeros : (n : ℕ) → 256 < n → Zero (replicate n 0)
+pub zeros : (n : ℕ) → maxGroups < n → Zero (replicate n 0)
 zeros n h =
     record {
       long = omega (arith, length-replicate {A = ℕ} n 0);
@@ -58,190 +59,164 @@ zeros n h =
 --------------------------------------------------------------------------------
 -- The rows at the groups that they name
 
-pub record Counting (r sel : List ℕ) (side N : ℕ) (k : List ℕ) (c : ℕ) : Type 0 where
-  pub upto : c ≤ N
-  pub counts : (h : ℕ) → row k h ≡ own c (hangs r side) (row sel) h
+module _ (s sel : List ℕ) (l : Layout) (side : ℕ) where
+  pub record Counting (k : List ℕ) (c : ℕ) : Type 0 where
+    pub long : maxGroups < length k
+    pub upto : c ≤ l .rows
+    pub counts : (h : ℕ) → row k h ≡ own c (hangs s l side) (row sel) h
 
-module _ (r sel : List ℕ) (side N : ℕ) (k : List ℕ) where
-  pub counting-start : Zero k → Counting r sel side N k 0
-  counting-start z =
-      record { upto = omega arith; counts = λ h. z .zero h ∙ sym (own-start (hangs r side) (row sel) h) }
-
-  module _ (bits : Selection N (row sel)) (c : ℕ) (l : c < N) (w : Counting r sel side N k c) where
-    -- a count is at most the number of rows before
-    pub counting-small : (h : ℕ) → row k h ≤ c
-    counting-small h =
-        omega (arith, w .counts h, own-small c (hangs r side) (row sel) (λ i m. bits i (omega arith)) h)
-
-    -- x is the byte of row c, g the group that it names
-    pub counting-step :
-        (g x : ℕ) → g ≡ hangs r side c → x ≡ row sel c → g < length k →
-        Counting r sel side N (set k g (row k g + x)) (c + 1)
-    counting-step g x e f long =
+  module _ (k : List ℕ) where
+    pub counting-start : Zero k → Counting k 0
+    counting-start z =
         record {
+          long = z .long;
           upto = omega arith;
-          counts = λ h.
-              moved k g x h long
-              ∙ ap (λ y. row k h + y * same g h) f
-              ∙ ap (λ y. row k h + row sel c * same y h) e
-              ∙ omega (arith, w .counts h, own-next c (hangs r side) (row sel) h);
+          counts = λ h. z .zero h ∙ sym (own-start (hangs s l side) (row sel) h);
         }
 
--- a row of a file names a group of the section, which has a count
-pub counting-inside :
-    (s sel : List ℕ) (l : Layout) (side : ℕ) (r : List ℕ) (g c : ℕ) → Ready s sel l → r ≡ claims s l → c < l .rows →
-    g ≡ hangs r side c → g < 256
-counting-inside s sel l side r g c ready e h is =
-    omega (
-      arith,
-      is ∙ ap (λ (x : List ℕ). hangs x side c) e,
-      side-node s l (ready .sound) side c h,
-      side-most s l (ready .sound) side,
-    )
+    module _ (bits : Selection (l .rows) (row sel)) (c : ℕ) (m : c < l .rows) (w : Counting k c) where
+      -- a count is at most the number of rows before
+      pub counting-small : (h : ℕ) → row k h ≤ c
+      counting-small h =
+          omega (arith, w .counts h, own-small c (hangs s l side) (row sel) (λ i n. bits i (omega arith)) h)
 
--- all rows of a file
-pub counting-end :
-    (s sel : List ℕ) (l : Layout) (side : ℕ) (r k : List ℕ) (c : ℕ) → r ≡ claims s l → l .rows ≤ c → 256 < length k →
-    Counting r sel side (l .rows) k c → Counted s sel l side k
-counting-end s sel l side r k c e m long w =
-    let all : c ≡ l .rows = omega (arith, w .upto) in
-    record {
-      long = long;
-      counts = λ h.
-          w .counts h
-          ∙ ap (λ (x : List ℕ). own c (hangs x side) (row sel) h) e
-          ∙ ap (λ n. own n (hangs (claims s l) side) (row sel) h) all;
-    }
+      -- x is the byte of row c, g the group where it hangs
+      pub counting-step :
+          (g x : ℕ) → g ≡ hangs s l side c → x ≡ row sel c → g < maxGroups → Counting (set k g (row k g + x)) (c + 1)
+      counting-step g x e f inside =
+          record {
+            long = simp length-set (w .long);
+            upto = omega arith;
+            counts = λ h.
+                moved k g x h (omega (arith, w .long))
+                ∙ ap (λ y. row k h + y * same g h) f
+                ∙ ap (λ y. row k h + row sel c * same y h) e
+                ∙ omega (arith, w .counts h, own-next c (hangs s l side) (row sel) h);
+          }
 
-module _ (s sel : List ℕ) (l : Layout) (side : ℕ) (k : List ℕ) (ready : Ready s sel l) (w : Counted s sel l side k) where
-  pub counted-named : Named (sideOf l side) (l .rows) (hangs (claims s l) side) (row sel) k
-  counted-named =
-      record {
-        few = ready .sound .rows-most;
-        bits = ready .bits;
-        inside = side-node s l (ready .sound) side;
-        counts = w .counts;
-      }
+    -- all rows
+    pub counting-end : (c : ℕ) → l .rows ≤ c → Counting k c → Counted s sel l side k
+    counting-end c m w =
+        let all : c ≡ l .rows = omega (arith, w .upto) in
+        record { long = w .long; counts = λ h. w .counts h ∙ ap (λ n. own n (hangs s l side) (row sel) h) all }
 
-  pub counted-begun : (p : Groups) → p ≡ sideOf l side → Begun s p k
-  counted-begun p e =
-      subst (λ (q : Groups). Begun s q k) (sym e)
-      (record {
-        held = record {
-          records = side-records s l (ready .sound) side;
-          long = omega (arith, w .long, side-most s l (ready .sound) side);
-        };
-        rows = l .rows;
-        at = hangs (claims s l) side;
-        chosen = row sel;
-        named = counted-named;
-      })
+    module _ (ready : Ready s sel l) (w : Counted s sel l side k) where
+      counted-named : Named s l side (row sel) k
+      counted-named = record { bits = ready .bits; counts = w .counts }
+
+      counted-held : Held s l side k
+      counted-held =
+          record { sound = ready .sound; long = omega (arith, w .long, side-most s l (ready .sound) side) }
+
+      pub counted-begun : Begun s l side k
+      counted-begun = record { held = counted-held; chosen = row sel; named = counted-named }
+
+      -- the selected rows have risen
+      pub placed : (next : List ℕ) (f : Found) → length next ≡ length k → Rose s l side k next f → Placed s sel l side next f
+      placed next f e rose =
+          record {
+            lifted = rose (row sel) counted-named;
+            held = record { sound = ready .sound; long = omega (arith, counted-held .long) };
+          }
 
 --------------------------------------------------------------------------------
 -- What came to one group is passed on
 
 -- u is the cell where it goes
-module _ (s : List ℕ) (p : Groups) (k : List ℕ) (g : ℕ) (w : Passes s p k g) (u : ℕ) (is : u ≡ parentIn s p g) where
-  pub passing-inside : u < length k
-  passing-inside =
-      elim (section-rooted s p g (w .inside)) [
-        | inl d ↦ omega (arith, w .inside, w .held .long)
-        | inr d ↦ omega (arith, w .held .long)
-      ]
+module _
+    (s : List ℕ) (l : Layout) (side : ℕ) (k : List ℕ) (g : ℕ) (w : Passes s l side k g) (u : ℕ) (is : u ≡ parentIn s l side g)
+  where
+    passing-inside : u < length k
+    passing-inside =
+        elim (side-rooted s l side g (w .inside)) [
+          | inl d ↦ omega (arith, w .inside, w .held .long)
+          | inr d ↦ omega (arith, w .held .long)
+        ]
 
-  pub passing-small : row k u + row k g < 65536
-  passing-small = rw is (w .small)
+    pub passing-small : row k u + row k g < 65536
+    passing-small = rw is (w .small)
 
-  pub passed-on :
-      (x limit : ℕ) (r : Bool) → limit ≡ limitIn s p g → x ≡ min (row k g) limit → r ≡ leb (row k g) limit →
-      PassedOn s p k (set k u (row k u + x)) g r
-  passed-on x limit r e f t =
-      record {
-        moves = λ h.
-            moved k u x h passing-inside
-            ∙ ap (λ y. row k h + y * same u h) (f ∙ ap (λ y. min (row k g) y) e)
-            ∙ ap (λ y. row k h + min (row k g) (limitIn s p g) * same y h) is;
-        all = t ∙ ap (leb (row k g)) e;
-      }
+    pub passed-on :
+        (x limit : ℕ) (r : Bool) → limit ≡ limitIn s l side g → x ≡ min (row k g) limit → r ≡ leb (row k g) limit →
+        PassedOn s l side k (set k u (row k u + x)) g r
+    passed-on x limit r e f t =
+        record {
+          moves = λ h.
+              moved k u x h passing-inside
+              ∙ ap (λ y. row k h + y * same u h) (f ∙ ap (λ y. min (row k g) y) e)
+              ∙ ap (λ y. row k h + min (row k g) (limitIn s l side g) * same y h) is;
+          all = t ∙ ap (leb (row k g)) e;
+        }
 
 --------------------------------------------------------------------------------
 -- The rows rise
 
--- whatever rows the counts k₀ were
-abbrev pub Rising : List ℕ → Groups → List ℕ → List ℕ → ℕ → Bool → Type 0
-Rising s p k₀ k g all =
-    (N : ℕ) (a X : ℕ → ℕ) → Named p N a X k₀ → Risen N (p .count) (parentIn s p) a (limitIn s p) X g (row k) all
+module _ (s : List ℕ) (l : Layout) (side : ℕ) where
+  -- the rows X have come from their own groups through those from g on
+  abbrev RisenTo : (ℕ → ℕ) → ℕ → List ℕ → Bool → Type 0
+  RisenTo X g k all = Risen (l .rows) (countOf l side) (parentIn s l side) (hangs s l side) (limitIn s l side) X g (row k) all
 
-module _ (s : List ℕ) (p : Groups) (k₀ : List ℕ) where
-  pub rising-start : (all : Bool) → all ≡ true → Rising s p k₀ k₀ (p .count) all
-  rising-start all e N a X n =
+  -- whatever rows the counts k₀ were
+  abbrev pub Rising : List ℕ → List ℕ → ℕ → Bool → Type 0
+  Rising k₀ k g all = (X : ℕ → ℕ) → Named s l side X k₀ → RisenTo X g k all
+
+module _ (s : List ℕ) (l : Layout) (side : ℕ) (k₀ : List ℕ) where
+  pub rising-start : Sound s l → (g : ℕ) → g ≡ countOf l side → Rising s l side k₀ k₀ g true
+  rising-start sound g e X n =
       rw e
-      (risen-start N (p .count) (parentIn s p) a (limitIn s p) X (section-rooted s p) (n .inside) (row k₀) (λ v l. n .counts v))
+      (risen-start (l .rows) (countOf l side) (parentIn s l side) (hangs s l side) (limitIn s l side) X
+      (side-rooted s l side) (side-node s l sound side) (row k₀) (λ v m. n .counts v))
 
-  module _ (k : List ℕ) (g : ℕ) (all : Bool) (w : Rising s p k₀ k g all) where
+  module _ (k : List ℕ) (g : ℕ) (all : Bool) (w : Rising s l side k₀ k g all) where
     -- the counts of rows that rise are small
-    pub rising-small : Begun s p k₀ → (v : ℕ) → (v < g) ⊎ (v ≡ p .count) → row k v ≤ 512
+    rising-small : Begun s l side k₀ → (v : ℕ) → (v < g) ⊎ (v ≡ countOf l side) → row k v ≤ maxRows
     rising-small b v wait =
         omega (
           arith,
-          b .named .few,
-          risen-small (b .rows) (p .count) (parentIn s p) (b .at) (limitIn s p) (b .chosen) (section-rooted s p)
-              (b .named .bits) g (row k) all (w (b .rows) (b .at) (b .chosen) (b .named)) v wait,
+          b .held .sound .rows-most,
+          risen-small (l .rows) (countOf l side) (parentIn s l side) (hangs s l side) (limitIn s l side) (b .chosen)
+              (side-rooted s l side) (b .named .bits) g (row k) all (w (b .chosen) (b .named)) v wait,
         )
 
-    module _ (h : ℕ) (next : g ≡ suc h) (inside : h < p .count) where
-      pub rising-passes : Begun s p k₀ → length k ≡ length k₀ → Passes s p k h
+    module _ (h : ℕ) (next : g ≡ suc h) (inside : h < countOf l side) where
+      pub rising-passes : Begun s l side k₀ → length k ≡ length k₀ → Passes s l side k h
       rising-passes b same-length =
           record {
-            held = record { records = b .held .records; long = omega (arith, b .held .long) };
+            held = record { sound = b .held .sound; long = omega (arith, b .held .long) };
             inside = inside;
             small =
-                elim (section-rooted s p h inside) [
-                  | inl d ↦
-                      omega (
-                        arith,
-                        rising-small b (parentIn s p h) (inl (omega arith)),
-                        rising-small b h (inl (omega arith)),
-                      )
-                  | inr d ↦
-                      omega (
-                        arith,
-                        rising-small b (parentIn s p h) (inr d),
-                        rising-small b h (inl (omega arith)),
-                      )
-                ];
+                omega (
+                  arith,
+                  rising-small b (parentIn s l side h)
+                      (elim (side-rooted s l side h inside) [ inl d ↦ inl (omega arith) | inr d ↦ inr d ]),
+                  rising-small b h (inl (omega arith)),
+                );
           }
 
       pub rising-step :
-          (j : List ℕ) (r rest : Bool) → PassedOn s p k j h r → rest ≡ (all && r) → Rising s p k₀ j h rest
-      rising-step j r rest passed e N a X n =
-          subst (λ b. Risen N (p .count) (parentIn s p) a (limitIn s p) X h (row j) b)
+          (j : List ℕ) (r rest : Bool) → PassedOn s l side k j h r → rest ≡ (all && r) → Rising s l side k₀ j h rest
+      rising-step j r rest passed e X n =
+          subst (λ b. RisenTo s l side X h j b)
           (sym (e ∙ ap (λ b. all && b) (passed .all)))
-          (risen-step N (p .count) (parentIn s p) a (limitIn s p) X (section-rooted s p) (n .bits) g (row k) all (w N a X n)
-          h next inside (min (row k h) (limitIn s p h)) refl (row j) (λ v m. passed .moves v))
+          (risen-step (l .rows) (countOf l side) (parentIn s l side) (hangs s l side) (limitIn s l side) X
+          (side-rooted s l side) (n .bits) g (row k) all (w X n) h next inside (min (row k h) (limitIn s l side h)) refl
+          (row j) (λ v m. passed .moves v))
 
   pub rising-end :
-      (k : List ℕ) (g : ℕ) (all : Bool) (rank : ℕ) → g ≡ 0 → rank ≡ row k (p .count) → Rising s p k₀ k g all →
-      Rose s p k₀ k (record { fits = all; rank = rank })
-  rising-end k g all rank done e w N a X n =
-      let t = subst (λ h. Risen N (p .count) (parentIn s p) a (limitIn s p) X h (row k) all) done (w N a X n) in
+      (k : List ℕ) (g : ℕ) (all : Bool) (rank : ℕ) → g ≡ 0 → rank ≡ row k (countOf l side) → Rising s l side k₀ k g all →
+      Rose s l side k₀ k (record { fits = all; rank = rank })
+  rising-end k g all rank done e w X n =
+      let t = subst (λ h. RisenTo s l side X h k all) done (w X n) in
       record {
         rank =
             rw e
-            (risen-rank N (p .count) (parentIn s p) a (limitIn s p) X (section-rooted s p) (n .bits) (row k) all t);
-        fits = risen-fits N (p .count) (parentIn s p) a (limitIn s p) X (section-rooted s p) (n .bits) (row k) all t;
-        unfit = risen-over N (p .count) (parentIn s p) a (limitIn s p) X (section-rooted s p) (n .bits) (row k) all t;
-        counts = λ f h l. t .counts f h (omega arith) l;
+            (risen-rank (l .rows) (countOf l side) (parentIn s l side) (hangs s l side) (limitIn s l side) X
+            (side-rooted s l side) (n .bits) (row k) all t);
+        fits =
+            risen-fits (l .rows) (countOf l side) (parentIn s l side) (hangs s l side) (limitIn s l side) X
+            (side-rooted s l side) (n .bits) (row k) all t;
+        unfit =
+            risen-over (l .rows) (countOf l side) (parentIn s l side) (hangs s l side) (limitIn s l side) X
+            (side-rooted s l side) (n .bits) (row k) all t;
+        counts = λ f h m. t .counts f h (omega arith) m;
       }
-
--- the selected rows of a file
-pub placed :
-    (s sel : List ℕ) (l : Layout) (side : ℕ) (p : Groups) (k next : List ℕ) (f : Found) → Ready s sel l →
-    Counted s sel l side k → p ≡ sideOf l side → length next ≡ length k → Rose s p k next f → Placed s sel l side next f
-placed s sel l side p k next f ready w e same-length rose =
-    record {
-      lifted =
-          subst (λ (q : Groups). Rose s q k next f) e rose (l .rows) (hangs (claims s l) side) (row sel)
-          (counted-named s sel l side k ready w);
-      long = omega (arith, w .long, side-most s l (ready .sound) side);
-    }

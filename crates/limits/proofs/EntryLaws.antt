@@ -19,8 +19,8 @@ use Rattle.claimfile.specs.declared.Layout.{Layout}
 use Rattle.claimfile.specs.declared.Reading.{Reading}
 use Rattle.claimfile.specs.declared.Reading.the-variants.{Accepted, Refused}
 use Rattle.claimfile.proofs.AcceptedLaws.{accepted-sound}
-use Rattle.limits.specs.declared.Fault.{Fault}
-use Rattle.limits.specs.declared.Fault.the-variants.{File, Short, Value}
+use Rattle.refusal.specs.declared.Reason.{Reason}
+use Rattle.refusal.specs.declared.Reason.the-variants.{File, Short, Value}
 use Rattle.limits.specs.declared.Entry.{Entry}
 use Rattle.limits.specs.declared.Entry.the-variants.{Entered, Turned}
 use Rattle.limits.specs.Answers.{bits, enteredBy, entered, Ready}
@@ -44,7 +44,7 @@ entered-by s sel x e = ap (enteredBy sel) e
 -- an accepted file with a selection is turned away with 8 or 9, or ready
 abbrev pub Entering : List ℕ → List ℕ → Layout → Type 0
 Entering s sel l =
-    ((why : Fault) × (entered s sel ≡ Turned why)) ⊎ ((entered s sel ≡ Entered l) × Ready s sel l)
+    ((why : Reason) × (entered s sel ≡ Turned why)) ⊎ ((entered s sel ≡ Entered l) × Ready s sel l)
 
 pub entering : (s sel : List ℕ) (l : Layout) → reading s ≡ Accepted l → Entering s sel l
 entering s sel l e =
@@ -67,7 +67,7 @@ entering s sel l e =
 one-entry : (x : Entry) (k l : Layout) → x ≡ Entered k → x ≡ Entered l → k ≡ l
 one-entry x k l p q = cc
 
-not-entered : (x : Entry) (why : Fault) (l : Layout) → x ≡ Turned why → x ≡ Entered l → ⊥
+not-entered : (x : Entry) (why : Reason) (l : Layout) → x ≡ Turned why → x ≡ Entered l → ⊥
 not-entered x why l p q = let z : _≡_ {A = ℕ} 0 1 = cc in omega arith
 
 pub entered-ready : (s sel : List ℕ) (l : Layout) → entered s sel ≡ Entered l → Ready s sel l

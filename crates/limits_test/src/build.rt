@@ -1,67 +1,48 @@
 // A day with one chain of card groups, written into a fresh buffer.
+use casebook::files::put;
+use casebook::files::put_claim;
+use casebook::files::put_group;
 use claimfile::TOP;
-ghost use mathlib.Core.Path.{_≡_};
-ghost use Prim.Native.Nat.{_+_, _*_, _≤_};
-ghost use lib.ListN.{length};
 
-// Zeros: room for the longest file.
-pub fn space() -> [u8; 4614]
-    ensures { λ r. ⌜ 4614 ≡ length r ⌝ }
-{
-    [0; 4614]
+// The group above group `g` of a chain; of `count` groups, the last.
+fn before(g: usize) -> usize {
+    if g == 0 {
+        return TOP;
+    }
+    g - 1
 }
 
-// Stores a 16-bit number, low byte first, where there is room for it.
-fn put(buf: &mut [u8], at: usize, x: usize) {
-    let len = buf.len();
-    if len < 2 {
-        return;
+// The limit of group `g`: none that matters, but for group `tight`.
+fn limit_of(g: usize, tight: usize, limit: usize) -> usize {
+    if g == tight {
+        return limit;
     }
-    if len - 2 < at {
-        return;
-    }
-    buf[at] = (x % 256) as u8;
-    buf[at + 1] = (x / 256 % 256) as u8;
+    TOP
 }
 
-// A section of `count` groups, each above the next, with no limit that matters but that of group `tight`.
-fn chain(buf: &mut [u8], count: usize, tight: usize, limit: usize)
-    requires { ⌜ (count ≤ 256) × (tight ≤ 256) ⌝ }
-{
-    put(buf, 0, count);
-    put(buf, 2, TOP);
-    put(buf, 4, TOP);
-    let mut g = 1;
-    while g < count {
-        put(buf, 2 + 4 * g, g - 1);
-        put(buf, 4 + 4 * g, TOP);
-        g += 1;
+// A section of `count` groups, each above the next. Answers the place behind it.
+fn chain(count: usize, tight: usize, limit: usize, buf: &mut [u8]) -> usize {
+    let mut next = put(0, count, buf);
+    for g in 0..count {
+        next = put_group(next, before(g), limit_of(g, tight, limit), buf);
     }
-    put(buf, 4 + 4 * tight, limit);
+    next
 }
 
-// Six claims of the card group `card` and shop group 0, and ordinary, at a place.
-fn claims(buf: &mut [u8], at: usize, card: usize)
-    requires { ⌜ at ≤ 2000 ⌝ }
-{
-    put(buf, at, 6);
-    let mut c = 0;
-    while c < 6usize {
-        put(buf, at + 2 + 5 * c, card);
-        c += 1;
+// Six ordinary claims of the card group `card` and shop group 0. Answers the place behind them.
+fn claims(at: usize, card: usize, buf: &mut [u8]) -> usize {
+    let mut next = put(at, 6, buf);
+    for c in 0..6usize {
+        next = put_claim(next, card, 0, buf);
     }
+    next
 }
 
-// A day of such a chain of card groups, one shop group at the top with limit 4, and six claims at the end of the chain.
-// Answers its length.
-pub fn deep(buf: &mut [u8], count: usize, tight: usize, limit: usize) -> usize
-    requires { ⌜ (1 ≤ count) × (count ≤ 256) × (tight ≤ 256) ⌝ }
-{
-    chain(buf, count, tight, limit);
-    let at = 2 + 4 * count;
-    put(buf, at, 1);
-    put(buf, at + 2, TOP);
-    put(buf, at + 4, 4);
-    claims(buf, at + 6, count - 1);
-    at + 38
+// A day of such a chain of card groups, one shop group at the top with limit 4, and six claims of the last card group. Answers its
+// length.
+pub fn deep(count: usize, tight: usize, limit: usize, buf: &mut [u8]) -> usize {
+    let after_cards = chain(count, tight, limit, buf);
+    let shop = put(after_cards, 1, buf);
+    let after_shops = put_group(shop, TOP, 4, buf);
+    claims(after_shops, before(count), buf)
 }

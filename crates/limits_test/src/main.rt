@@ -3,12 +3,21 @@ mod build;
 mod tell;
 
 use build::deep;
-use build::space;
+use casebook::files::DAY_A;
+use casebook::files::DAY_B;
+use casebook::files::DAY_E;
+use casebook::files::EXAMPLE_1;
+use casebook::files::EXAMPLE_2;
+use casebook::files::EXAMPLE_3;
+use casebook::files::EXAMPLE_4;
+use casebook::files::EXAMPLE_5;
+use casebook::files::EXAMPLE_6;
+use casebook::files::EXAMPLE_7;
+use casebook::files::space;
+use casebook::line::number;
+use casebook::line::text;
 use tell::more;
-use tell::number;
 use tell::ranked;
-use tell::text;
-ghost use Prim.Native.Nat.{_≤_};
 
 const CARD: usize = 0;
 
@@ -16,23 +25,12 @@ const SHOP: usize = 1;
 // The largest number of its type.
 const FAR: usize = 18446744073709551615;
 
-// Day A: rows c0/s0 e, c0/s1 o, c1/s0 o, every limit 1.
 fn day_a(name: &[u8], selection: &[u8], side: usize) {
-    ranked(
-        name,
-        b"\x02\x00\xff\xff\x01\x00\xff\xff\x01\x00\x02\x00\xff\xff\x01\x00\xff\xff\x01\x00\x03\x00\x00\x00\x00\x00\x01\x00\x00\x01\x00\x00\x01\x00\x00\x00\x00",
-        selection,
-        side,
-    );
+    ranked(name, &DAY_A, selection, side);
 }
 
 fn more_a(name: &[u8], selection: &[u8], row: usize) {
-    more(
-        name,
-        b"\x02\x00\xff\xff\x01\x00\xff\xff\x01\x00\x02\x00\xff\xff\x01\x00\xff\xff\x01\x00\x03\x00\x00\x00\x00\x00\x01\x00\x00\x01\x00\x00\x01\x00\x00\x00\x00",
-        selection,
-        row,
-    );
+    more(name, &DAY_A, selection, row);
 }
 
 // Days G and H of document 01.
@@ -98,36 +96,24 @@ fn faulty(name: &[u8], file: &[u8]) {
 }
 
 fn faulty_files() {
-    faulty(b"example 1", b"\x00");
-    faulty(b"example 2", b"\x01\x01");
-    faulty(b"example 3", b"\x01\x00\x00\x00\x05\x00");
-    faulty(b"example 4", b"\x00\x00\x00\x00\x01\x02");
-    faulty(
-        b"example 5",
-        b"\x00\x00\x00\x00\x01\x00\x00\x00\x00\x00\x00",
-    );
-    faulty(
-        b"example 6",
-        b"\x01\x00\xff\xff\x01\x00\x01\x00\xff\xff\x01\x00\x01\x00\x00\x00\x00\x00\x02",
-    );
-    faulty(b"example 7", b"\x00\x00\x00\x00\x00\x00\x00");
+    faulty(b"example 1", &EXAMPLE_1);
+    faulty(b"example 2", &EXAMPLE_2);
+    faulty(b"example 3", &EXAMPLE_3);
+    faulty(b"example 4", &EXAMPLE_4);
+    faulty(b"example 5", &EXAMPLE_5);
+    faulty(b"example 6", &EXAMPLE_6);
+    faulty(b"example 7", &EXAMPLE_7);
 }
 
 // Day E has no group and no row.
 fn day_e() {
-    ranked(b"day E, card", b"\x00\x00\x00\x00\x00\x00", b"", CARD);
-    ranked(b"day E, shop", b"\x00\x00\x00\x00\x00\x00", b"\x05", SHOP);
-    more(b"day E, row 0", b"\x00\x00\x00\x00\x00\x00", b"", 0);
+    ranked(b"day E, card", &DAY_E, b"", CARD);
+    ranked(b"day E, shop", &DAY_E, b"\x05", SHOP);
+    more(b"day E, row 0", &DAY_E, b"", 0);
 }
 
-// Day B: shop s0 limit 2 over s1 limit 5 and s2 limit 1; rows c0/s2 o, c1/s2 e, c2/s1 o.
 fn day_b(name: &[u8], selection: &[u8], side: usize) {
-    ranked(
-        name,
-        b"\x03\x00\xff\xff\x01\x00\xff\xff\x01\x00\xff\xff\x01\x00\x03\x00\xff\xff\x02\x00\x00\x00\x05\x00\x00\x00\x01\x00\x03\x00\x00\x00\x02\x00\x00\x01\x00\x02\x00\x01\x02\x00\x01\x00\x00",
-        selection,
-        side,
-    );
+    ranked(name, &DAY_B, selection, side);
 }
 
 fn day_b_selections() {
@@ -145,11 +131,9 @@ fn show(buf: &[u8], n: usize, selection: &[u8], side: usize) {
 }
 
 // Six rows at the end of a chain: the limit of one group above them is what counts.
-fn chain_case(count: usize, tight: usize, limit: usize)
-    requires { ⌜ (1 ≤ count) × (count ≤ 256) × (tight ≤ 256) ⌝ }
-{
+fn chain_case(count: usize, tight: usize, limit: usize) {
     let mut buf = space();
-    let n = deep(&mut buf, count, tight, limit);
+    let n = deep(count, tight, limit, &mut buf);
     text(b"chain of");
     number(count);
     text(b", group");
@@ -171,7 +155,7 @@ fn chains() {
 
 fn chain_shop() {
     let mut buf = space();
-    let n = deep(&mut buf, 256, 0, 1);
+    let n = deep(256, 0, 1, &mut buf);
     text(b"chain of 256, shop");
     show(&buf, n, b"\x01\x01\x01\x00\x01\x01", SHOP);
 }

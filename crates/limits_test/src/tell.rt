@@ -1,25 +1,11 @@
 // What the calls answer, a line each.
-use libc::STDOUT_FILENO;
-use limits::Fault;
+use casebook::line::number;
+use casebook::line::refused;
+use casebook::line::text;
 use limits::OneMore;
 use limits::Ranked;
 use limits::fits_and_rank;
 use limits::one_more;
-
-pub fn text(words: &[u8]) {
-    io::write_all(STDOUT_FILENO, words);
-}
-
-pub fn number(n: usize) {
-    text(b" ");
-    io::print_decimal(STDOUT_FILENO, n as u64);
-}
-
-fn refused(why: Fault) {
-    text(b": refused");
-    number(limits::number(why) as usize);
-    text(b"\n");
-}
 
 fn told(fits: bool, rank: usize) {
     if fits {

@@ -1,7 +1,9 @@
 -- What `settle` prints for a file. The file's bytes alone decide it.
---   dayText s l            the text of a closed day: its best choice, with the counts and the weight of that choice
---   PrintsClosed ..        the text of an accepted file with a choice and the totals that were answered
---   Prints ..              the text in the lent buffer: of the closed day, or of the refusal
+--   bestRow i              the best choice of the day, row by row
+--   dayText i              the text of a closed day: its best choice, with the counts and the weight of that choice
+--   PrintsOn i ..          what printing a day leaves: the text in the lent buffer, of the closed day or of the refusal, and in the
+--                          other buffers what settling leaves
+--   Prints s ..            the same for any file, by its reading
 -- The fields `within` and `counted` say of `&out[..n]`, the part that a caller takes, that it is one and how long it is.
 use mathlib.Core.Path.{_≡_}
 use mathlib.Core.List.{List}
@@ -9,36 +11,43 @@ use Prim.Native.Nat.{ℕ, _≤_}
 use lib.ListN.{length, take}
 use Rattle.theory.specs.Incidence.{size, worth}
 use Rattle.theory.specs.Matroid.{row}
+use Rattle.theory.specs.Network.{Instance}
 use Rattle.theory.specs.Priority.{kept, weightOf}
 use Rattle.theory.specs.Best.{bestChoice}
 use Rattle.claimfile.specs.declared.Layout.{Layout}
 use Rattle.claimfile.specs.declared.Refusal.{Refusal}
 use Rattle.claimfile.specs.declared.Reading.the-variants.{Accepted, Refused}
-use Rattle.claimfile.specs.File.{reading, numberOf}
-use Rattle.claimfile.specs.Day.{limitOf, kindOf, networkOf}
+use Rattle.claimfile.specs.File.{reading}
+use Rattle.claimfile.specs.Day.{instanceOf}
+use Rattle.refusal.specs.declared.Reason.the-variants.{File, Short}
+use Rattle.refusal.specs.Table.{numberOf}
 use Rattle.closing.specs.declared.Totals.{Totals}
-use Rattle.closing.specs.Settle.{Enough, Lacks}
+use Rattle.closing.specs.Settle.{Enough, Lacks, Untouched, Closes}
+use Rattle.text.specs.Buffer.{Written}
 use Rattle.report.specs.Text.{closedText, refusedText}
-use Rattle.report.specs.Buffer.{Written}
 
-abbrev pub bestRow : List ℕ → Layout → ℕ → ℕ
-bestRow s l = row (bestChoice (networkOf s l) (limitOf s l) 2 (kindOf s l))
+abbrev pub bestRow : Instance → ℕ → ℕ
+bestRow i = row (bestChoice (i .net) (i .limit) 2 (i .kind))
 
-unfoldable pub dayText : List ℕ → Layout → List ℕ
-dayText s l =
-    closedText (l .rows) (kindOf s l) (bestRow s l) (kept (l .rows) (kindOf s l) (bestRow s l) 1) (size (l .rows) (bestRow s l))
-    (worth (l .rows) (weightOf (l .rows) (kindOf s l)) (bestRow s l))
+unfoldable pub dayText : Instance → List ℕ
+dayText i =
+    closedText (i .net .rows) (i .kind) (bestRow i) (kept (i .net .rows) (i .kind) (bestRow i) 1)
+    (size (i .net .rows) (bestRow i)) (worth (i .net .rows) (weightOf (i .net .rows) (i .kind)) (bestRow i))
 
-pub record PrintsClosed (s ch : List ℕ) (t : Totals) (out out′ : List ℕ) (n : ℕ) : Type 0 where
+pub record PrintsOn (i : Instance) (ch sheet t out ch′ sheet′ t′ out′ : List ℕ) (n : ℕ) : Type 0 where
   pub within : n ≤ length out′
   pub counted : n ≡ length (take n out′)
-  pub written :
-      (l : Layout) → reading s ≡ Accepted l →
-      Written (closedText (l .rows) (kindOf s l) (row ch) (t .earned) (t .kept) (t .total)) out out′ n
+  pub short :
+      Lacks (i .net) ch sheet t → Written (refusedText (numberOf Short)) out out′ n × Untouched ch sheet t ch′ sheet′ t′
+  pub closed :
+      Enough (i .net) ch sheet t →
+      Written (dayText i) out out′ n × (a : Totals) × Closes i ch sheet t ch′ sheet′ t′ a
 
-pub record Prints (s ch sheet scr out out′ : List ℕ) (n : ℕ) : Type 0 where
+pub record Prints (s ch sheet t out ch′ sheet′ t′ out′ : List ℕ) (n : ℕ) : Type 0 where
   pub within : n ≤ length out′
   pub counted : n ≡ length (take n out′)
-  pub refused : (why : Refusal) → reading s ≡ Refused why → Written (refusedText (numberOf why)) out out′ n
-  pub short : (l : Layout) → reading s ≡ Accepted l → Lacks l ch sheet scr → Written (refusedText 8) out out′ n
-  pub closed : (l : Layout) → reading s ≡ Accepted l → Enough l ch sheet scr → Written (dayText s l) out out′ n
+  pub refused :
+      (why : Refusal) → reading s ≡ Refused why →
+      Written (refusedText (numberOf (File why))) out out′ n × Untouched ch sheet t ch′ sheet′ t′
+  pub printed :
+      (l : Layout) → reading s ≡ Accepted l → PrintsOn (instanceOf s l) ch sheet t out ch′ sheet′ t′ out′ n

@@ -1,3 +1,2 @@
--- Laws of the text and of appending.
+-- Laws of the text.
 pub mod TextLaws
-pub mod BufferLaws

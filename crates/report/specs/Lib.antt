@@ -1,4 +1,3 @@
--- The text that `settle` writes, and what the writers promise of a lent buffer.
+-- The text that `settle` writes.
 pub mod Text
-pub mod Buffer
 pub mod Examples

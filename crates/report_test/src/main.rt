@@ -1,20 +1,45 @@
-// Writes day A's text, the texts of refused files with numbers around the powers of 10, a longer day with the largest total,
-// and then what comes of a buffer of just the length of day A's text, of one cell more and of one cell less.
+// Writes day A's text, a longer day's with the largest total, the texts of refused files with numbers around the powers of 10, and
+// then what comes of a buffer of just the length of day A's text, of one cell more and of one cell less.
+use claimfile::Reading;
+use claimfile::read;
 use report::write_closed;
 use report::write_refused;
+use text::put_word;
 ghost use Rattle.io.specs.Counts.{Counts};
 
-// Day A's claims section, c0/s0 e, c0/s1 o, c1/s0 o, and its choice.
-const CLAIMS: [u8; 15] = [0, 0, 0, 0, 1, 0, 0, 1, 0, 0, 1, 0, 0, 0, 0];
+// The text of a closed file; nothing where the file is turned away or the choice is too short.
+fn text_of(
+    file: &[u8],
+    earned: usize,
+    kept: usize,
+    total: u64,
+    choice: &[u8],
+    out: &mut [u8],
+) -> usize
+    ensures { λ r. ⌜ Counts r (now (out .exit)) ⌝ }
+{
+    let reading = read(file);
+    let Reading::Accepted(layout) = reading else {
+        return 0;
+    };
+    if choice.len() < layout.rows {
+        return 0;
+    }
+    write_closed(file, layout, earned, kept, total, choice, out)
+}
 
-const CHOICE: [u8; 3] = [1, 0, 0];
-
+// Day A: two cards and two shops of limit 1 at the top, and the claims c0/s0 e, c0/s1 o, c1/s0 o.
 fn day(out: &mut [u8]) -> usize
     ensures { λ r. ⌜ Counts r (now (out .exit)) ⌝ }
 {
-    let claims = CLAIMS;
-    let choice = CHOICE;
-    write_closed(&claims, &choice, 3, 1, 1, 4, out)
+    text_of(
+        b"\x02\x00\xff\xff\x01\x00\xff\xff\x01\x00\x02\x00\xff\xff\x01\x00\xff\xff\x01\x00\x03\x00\x00\x00\x00\x00\x01\x00\x00\x01\x00\x00\x01\x00\x00\x00\x00",
+        1,
+        1,
+        4,
+        b"\x01\x00\x00",
+        out,
+    )
 }
 
 fn closed() {
@@ -23,20 +48,18 @@ fn closed() {
     io::write_all(1, &out[..n]);
 }
 
-// Twelve rows, of which only three have bytes: those of the others count as 0.
+// One card, one shop and twelve rows, the first of them earned; every byte of the others is 0. Row 0 alone is kept.
 fn largest() {
-    let claims = CLAIMS;
-    let choice = CHOICE;
-    let mut out = [0u8; 512];
-    let n = write_closed(
-        &claims,
-        &choice,
-        12,
-        65535,
-        100,
-        18446744073709551615,
-        &mut out,
+    let mut file = [0u8; 74];
+    put_word(
+        0,
+        b"\x01\x00\xff\xff\x01\x00\x01\x00\xff\xff\x01\x00\x0c\x00\x00\x00\x00\x00\x01",
+        &mut file,
     );
+    let mut choice = [0u8; 12];
+    choice[0] = 1;
+    let mut out = [0u8; 512];
+    let n = text_of(&file, 65535, 100, 18446744073709551615, &choice, &mut out);
     io::write_all(1, &out[..n]);
 }
 

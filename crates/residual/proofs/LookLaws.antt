@@ -20,7 +20,7 @@ use Rattle.theory.proofs.ResidualLaws.{arc-up, arc-down, arc-row, sides-apart}
 use Rattle.theory.proofs.TestLaws.{and-true, true-and}
 use Rattle.residual.specs.declared.Shape.{Shape}
 use Rattle.residual.specs.Map.{spareOf, parentOf, priceOf, keptOf}
-use Rattle.residual.specs.State.{network, residual}
+use Rattle.residual.specs.View.{netOf, residualOf}
 use Rattle.residual.specs.Items.{RowItem, ChildItem}
 use Rattle.residual.specs.Search.{Leads, Ends}
 use Rattle.residual.proofs.MapLaws.{price-out}
@@ -37,13 +37,13 @@ true-some false k h = ap not (ne-eqb k 0 (λ e. omega (arith, h refl)))
 -- a root has price 0
 pub price-told :
     (sh : Shape) (sheet : List ℕ) (u v : ℕ) {a x r : ℕ} → a ≡ pick (ltb v (sh .groups)) v u → x ≡ priceOf sh sheet a →
-    ((ltb v (sh .groups) ≡ true → r ≡ x) × (ltb v (sh .groups) ≡ false → r ≡ 0)) → r ≡ priceOf sh sheet v
+    r ≡ pick (ltb v (sh .groups)) x 0 → r ≡ priceOf sh sheet v
 price-told sh sheet u v {a} at is told =
     elim (decLt v (sh .groups)) [
       | yes l ↦
-          let t = lt-ltb v (sh .groups) l in
-          told .0 t ∙ is ∙ ap (priceOf sh sheet) (rw t at at)
-      | no l ↦ told .1 (le-ltb v (sh .groups) (omega arith)) ∙ sym (price-out sh sheet v (omega arith))
+          let h = lt-ltb v (sh .groups) l in
+          (rw h at told) ∙ is ∙ ap (priceOf sh sheet) (rw h at at)
+      | no l ↦ (rw (le-ltb v (sh .groups) (omega arith)) at told) ∙ sym (price-out sh sheet v (omega arith))
     ]
 
 module _ (r : Residual) (S spare : ℕ → ℕ) where
@@ -90,7 +90,7 @@ module _ (r : Residual) (S spare : ℕ → ℕ) where
           ]
 
       row-open : S c ≡ x → r .free ≤ c → dues r c ≡ r .weight c → Arc r S spare (r .net .groups + c) u v 0
-      row-open s m d =
+      row-open x₁ m d =
           elim ends [
             | inl E ↦
                 puts (record {
@@ -98,7 +98,7 @@ module _ (r : Residual) (S spare : ℕ → ℕ) where
                   row = l;
                   live = m;
                   code = refl;
-                  out = s ∙ E .0;
+                  out = x₁ ∙ E .0;
                   tail = E .1 .0;
                   head = E .1 .1;
                   slack = omega arith;
@@ -109,7 +109,7 @@ module _ (r : Residual) (S spare : ℕ → ℕ) where
                   row = l;
                   live = m;
                   code = refl;
-                  kept = s ∙ E .0;
+                  kept = x₁ ∙ E .0;
                   tail = E .1 .0;
                   head = E .1 .1;
                   slack = omega arith;
@@ -119,51 +119,51 @@ module _ (r : Residual) (S spare : ℕ → ℕ) where
 --------------------------------------------------------------------------------
 -- In the buffers, over what was read from them
 
-module _ (sh : Shape) (sheet ch s : List ℕ) where
+module _ (sh : Shape) (ch sheet t : List ℕ) where
   abbrev Res : Residual
-  Res = residual sh sheet s
+  Res = residualOf sh sheet t
 
   pub up-leads :
-      {u v pu pv sp : ℕ} → pu ≡ priceOf sh sheet u → pv ≡ priceOf sh sheet v → u < sh .groups → v ≡ parentOf sh s u →
-      sp ≡ spareOf sh s u →
-      Leads sh sheet ch s (sh .groups + sh .rows + u) u v (eqb pu pv && (ltb u (sh .cards) || not (eqb sp 0)))
+      {u v pu pv sp : ℕ} → pu ≡ priceOf sh sheet u → pv ≡ priceOf sh sheet v → u < sh .groups → v ≡ parentOf sh t u →
+      sp ≡ spareOf sh t u →
+      Leads sh ch sheet t (sh .groups + sh .rows + u) u v (eqb pu pv && (ltb u (sh .cards) || not (eqb sp 0)))
   up-leads {u} {v} {pu} {pv} {sp} p q l is k = record {
-    yes = λ t.
-        let w = and-true (eqb pu pv) (ltb u (sh .cards) || not (eqb sp 0)) t in
-        up-open Res (keptOf ch) (spareOf sh s) u v l is (sym p ∙ eqb-true pu pv (w .0) ∙ q)
+    yes = λ h.
+        let w = and-true (eqb pu pv) (ltb u (sh .cards) || not (eqb sp 0)) h in
+        up-open Res (keptOf ch) (spareOf sh t) u v l is (sym p ∙ eqb-true pu pv (w .0) ∙ q)
         (λ m. omega (arith, some-true (ltb u (sh .cards)) sp (w .1) (le-ltb u (sh .cards) m)));
     only = λ w A.
-        let R = rise Res (keptOf ch) (spareOf sh s) u v l is A in (
+        let R = rise Res (keptOf ch) (spareOf sh t) u v l is A in (
           true-and (eqb pu pv) (ltb u (sh .cards) || not (eqb sp 0))
               (eq-eqb pu pv (omega (arith, R .slack, ap (priceOf sh sheet) is)))
-              (true-some (ltb u (sh .cards)) sp (λ t. omega (arith, R .room (ltb-false u (sh .cards) t)))),
+              (true-some (ltb u (sh .cards)) sp (λ h. omega (arith, R .room (ltb-false u (sh .cards) h)))),
           R .head ∙ sym is,
         );
   }
 
   pub down-leads :
-      {u v sp : ℕ} → ChildItem Res u (sh .rows + v) → sp ≡ spareOf sh s v →
-      Leads sh sheet ch s v u v (leb (sh .cards) v || not (eqb sp 0))
+      {u v sp : ℕ} → ChildItem Res u (sh .rows + v) → sp ≡ spareOf sh t v →
+      Leads sh ch sheet t v u v (leb (sh .cards) v || not (eqb sp 0))
   down-leads {u} {v} {sp} C k =
       let i : C .v ≡ v = omega (arith, C .code) in
       let l : v < sh .groups = omega (arith, C .group) in
-      let is : parentOf sh s v ≡ u = ap (parentOf sh s) (sym i) ∙ C .at in
+      let is : parentOf sh t v ≡ u = ap (parentOf sh t) (sym i) ∙ C .at in
       record {
-        yes = λ t.
-            down-open Res (keptOf ch) (spareOf sh s) u v l is
+        yes = λ h.
+            down-open Res (keptOf ch) (spareOf sh t) u v l is
             (ap (priceOf sh sheet) (sym (C .at)) ∙ C .even ∙ ap (priceOf sh sheet) i)
-            (λ m. omega (arith, some-true (leb (sh .cards) v) sp t (lt-leb (sh .cards) v m)));
+            (λ m. omega (arith, some-true (leb (sh .cards) v) sp h (lt-leb (sh .cards) v m)));
         only = λ w A.
-            let D = fall Res (keptOf ch) (spareOf sh s) u v l is A in
-            (true-some (leb (sh .cards) v) sp (λ t. omega (arith, D .room (leb-false (sh .cards) v t))), D .head);
+            let D = fall Res (keptOf ch) (spareOf sh t) u v l is A in
+            (true-some (leb (sh .cards) v) sp (λ h. omega (arith, D .room (leb-false (sh .cards) v h))), D .head);
       }
 
   pub row-leads :
-      {u v c x y : ℕ} → Formed (network sh s) → Ends sh s c u v x → sh .free ≤ c → RowItem Res u c → y ≡ keptOf ch c →
-      Leads sh sheet ch s (sh .groups + c) u v (eqb y x)
+      {u v c x y : ℕ} → Formed (netOf sh t) → Ends sh t c u v x → sh .free ≤ c → RowItem Res u c → y ≡ keptOf ch c →
+      Leads sh ch sheet t (sh .groups + c) u v (eqb y x)
   row-leads {u} {v} {c} {x} {y} f E m R j = record {
-    yes = λ t. row-open Res (keptOf ch) (spareOf sh s) f c u v x (E .row) (E .ends) (sym j ∙ eqb-true y x t) m (R .even);
+    yes = λ h. row-open Res (keptOf ch) (spareOf sh t) f c u v x (E .row) (E .ends) (sym j ∙ eqb-true y x h) m (R .even);
     only = λ w A.
-        let L = along Res (keptOf ch) (spareOf sh s) f c u v x (E .row) (E .ends) A in
+        let L = along Res (keptOf ch) (spareOf sh t) f c u v x (E .row) (E .ends) A in
         (eq-eqb y x (j ∙ L .1), L .0);
   }

@@ -4,15 +4,16 @@
 // side of the network comes last at a card node, and the way up comes last at a shop node: most paths from the source to the sink are
 // found early so, where the newest node is gone on from first.
 ghost use mathlib.Core.Path.{_≡_};
-ghost use mathlib.Core.Bool.{true, false};
+ghost use mathlib.Core.Bool.{true};
 ghost use Prim.Native.Nat.{_+_, _≤_, _<_};
 ghost use lib.ListN.{length};
+ghost use Rattle.theory.specs.Bounds.{cellBound};
 ghost use Rattle.residual.specs.Map.{parentOf, priceOf, queueOf, span, Room};
-ghost use Rattle.residual.specs.State.{network, residual, Ready};
+ghost use Rattle.residual.specs.View.{netOf, residualOf};
+ghost use Rattle.residual.specs.State.{Ready};
 ghost use Rattle.residual.specs.Items.{RowItem, ChildItem, ItemArc, Least, arcAt};
 ghost use Rattle.residual.specs.Search.{Reached, Tried, Leads, Looking, Looked, Ends, AtItem, Open, Scanned, Rising, Every, Newest, Next, Seeded, Asked, Searched, Queued, Relabelled, Refreshed};
 use super::Shape;
-use super::lists::pick;
 use super::map::after_card;
 use super::map::after_child;
 use super::map::after_shop;
@@ -27,46 +28,37 @@ use super::map::set_label;
 use super::map::set_queue;
 use super::map::shop;
 use super::map::spare;
+use super::pick::pick;
 
 // Node v is reached by arc e, in place n.
-fn reach(scratch: &mut [u32], sh: Shape, v: usize, e: usize, n: usize)
+fn reach(sh: Shape, v: usize, e: usize, n: usize, scratch: &mut [u32])
     requires { ⌜ Room sh (now scratch) ⌝ }
     requires { ⌜ (v < sh .groups + 2) × ((n < sh .groups + 2) × (e + 1 < span)) ⌝ }
     ensures { λ _. ⌜ Reached sh (now (scratch .entry)) (now (scratch .exit)) v e n ⌝ }
 {
     let fresh = sh.fresh;
-    set_label(scratch, sh, v, fresh + e + 1);
-    set_queue(scratch, sh, n, v);
-}
-
-// x where `when` holds, else 0.
-fn only(when: bool, x: usize) -> usize
-    ensures { λ r. ⌜ (when ≡ true → r ≡ x) × (when ≡ false → r ≡ 0) ⌝ }
-{
-    if when {
-        return x;
-    }
-    0
+    set_label(sh, v, fresh + e + 1, scratch);
+    set_queue(sh, n, v, scratch);
 }
 
 // Looks at node v, to which arc e leads, where n nodes are reached. Where the arc is open and the node is fresh, it is reached. The
 // answer is how many are reached then. What is stored where it is not changes nothing: no branch depends on the tests, whose answers
 // no processor foresees.
-fn look(scratch: &mut [u32], sh: Shape, v: usize, e: usize, leads: bool, n: usize) -> usize
+fn look(sh: Shape, v: usize, e: usize, leads: bool, n: usize, scratch: &mut [u32]) -> usize
     requires { ⌜ Room sh (now scratch) ⌝ }
     requires { ⌜ (v < sh .groups + 2) × ((n ≤ sh .groups + 2) × (e + 1 < span)) ⌝ }
     ensures { λ r. ⌜ Tried sh (now (scratch .entry)) (now (scratch .exit)) v e leads n r ⌝ }
 {
     let fresh = sh.fresh;
-    let was = label(scratch, sh, v);
+    let was = label(sh, v, scratch);
     let takes = leads & (was == fresh);
-    set_label(scratch, sh, v, was + only(takes, e + 1));
-    set_queue(scratch, sh, n, v);
-    n + only(takes, 1)
+    set_label(sh, v, was + pick(takes, e + 1, 0), scratch);
+    set_queue(sh, n, v, scratch);
+    n + pick(takes, 1, 0)
 }
 
 // The price of node v, beside a group u: no branch depends on whether v is a root.
-fn price_above(sheet: &[u32], sh: Shape, u: usize, v: usize) -> usize
+fn price_above(sh: Shape, u: usize, v: usize, sheet: &[u32]) -> usize
     requires { ⌜ sh .groups ≤ length (now sheet) ⌝ }
     requires { ⌜ u < sh .groups ⌝ }
     ensures { λ r. ⌜ r ≡ priceOf sh (now (sheet .entry)) v ⌝ }
@@ -74,165 +66,165 @@ fn price_above(sheet: &[u32], sh: Shape, u: usize, v: usize) -> usize
     let g = sh.groups;
     let inside = v < g;
     let at = pick(inside, v, u);
-    only(inside, price(sheet, sh, at))
+    pick(inside, price(sh, at, sheet), 0)
 }
 
 // Whether the arc from group u up to its parent v is open.
-fn leads_up(scratch: &[u32], sheet: &[u32], choice: &[u8], sh: Shape, u: usize, v: usize) -> bool
-    requires { ⌜ Ready sh (now sheet) (now choice) (now scratch) ⌝ }
+fn leads_up(sh: Shape, u: usize, v: usize, choice: &[u8], sheet: &[u32], scratch: &[u32]) -> bool
+    requires { ⌜ Ready sh (now choice) (now sheet) (now scratch) ⌝ }
     requires { ⌜ (u < sh .groups) × (v ≡ parentOf sh (now scratch) u) ⌝ }
-    ensures { λ r. ⌜ Leads sh (now (sheet .entry)) (now (choice .entry)) (now (scratch .entry)) (sh .groups + sh .rows + u) u v r ⌝ }
+    ensures { λ r. ⌜ Leads sh (now (choice .entry)) (now (sheet .entry)) (now (scratch .entry)) (sh .groups + sh .rows + u) u v r ⌝ }
 {
     let cards = sh.cards;
-    let even = price(sheet, sh, u) == price_above(sheet, sh, u, v);
-    let room = (u < cards) | (spare(scratch, sh, u) != 0);
+    let even = price(sh, u, sheet) == price_above(sh, u, v, sheet);
+    let room = (u < cards) | (spare(sh, u, scratch) != 0);
     even & room
 }
 
 // Looks up from group u.
 fn look_up(
-    scratch: &mut [u32],
-    sheet: &[u32],
-    choice: &[u8],
     sh: Shape,
     u: usize,
     n: usize,
+    choice: &[u8],
+    sheet: &[u32],
+    scratch: &mut [u32],
 ) -> usize
-    requires { ⌜ Looking sh (now sheet) (now choice) (now scratch) n ⌝ }
+    requires { ⌜ Looking sh (now choice) (now sheet) (now scratch) n ⌝ }
     requires { ⌜ u < sh .groups ⌝ }
-    ensures { λ r. ⌜ Looked sh (now (sheet .entry)) (now (choice .entry)) (now (scratch .entry)) (now (scratch .exit)) u (sh .groups + sh .rows + u) n r ⌝ }
+    ensures { λ r. ⌜ Looked sh (now (choice .entry)) (now (sheet .entry)) (now (scratch .entry)) (now (scratch .exit)) u (sh .groups + sh .rows + u) n r ⌝ }
 {
     let g = sh.groups;
     let rows = sh.rows;
-    let v = parent(scratch, sh, u);
-    let leads = leads_up(scratch, sheet, choice, sh, u, v);
-    look(scratch, sh, v, g + rows + u, leads, n)
+    let v = parent(sh, u, scratch);
+    let leads = leads_up(sh, u, v, choice, sheet, scratch);
+    look(sh, v, g + rows + u, leads, n, scratch)
 }
 
 // Looks down from node u to its child v, which has the price of u.
 fn look_down(
-    scratch: &mut [u32],
-    sheet: &[u32],
-    choice: &[u8],
     sh: Shape,
     u: usize,
     v: usize,
     n: usize,
+    choice: &[u8],
+    sheet: &[u32],
+    scratch: &mut [u32],
 ) -> usize
-    requires { ⌜ Looking sh (now sheet) (now choice) (now scratch) n ⌝ }
-    requires { ⌜ ChildItem (residual sh (now sheet) (now scratch)) u (sh .rows + v) ⌝ }
-    ensures { λ r. ⌜ Looked sh (now (sheet .entry)) (now (choice .entry)) (now (scratch .entry)) (now (scratch .exit)) u v n r ⌝ }
+    requires { ⌜ Looking sh (now choice) (now sheet) (now scratch) n ⌝ }
+    requires { ⌜ ChildItem (residualOf sh (now sheet) (now scratch)) u (sh .rows + v) ⌝ }
+    ensures { λ r. ⌜ Looked sh (now (choice .entry)) (now (sheet .entry)) (now (scratch .entry)) (now (scratch .exit)) u v n r ⌝ }
 {
     let cards = sh.cards;
-    let leads = (cards <= v) | (spare(scratch, sh, v) != 0);
-    look(scratch, sh, v, v, leads, n)
+    let leads = (cards <= v) | (spare(sh, v, scratch) != 0);
+    look(sh, v, v, leads, n, scratch)
 }
 
 // Looks along row c, which costs its weight and leads from node u to node v where its byte in the choice is `when`.
 fn look_row(
-    scratch: &mut [u32],
-    sheet: &[u32],
-    choice: &[u8],
     sh: Shape,
     u: usize,
     v: usize,
     c: usize,
     when: u8,
     n: usize,
+    choice: &[u8],
+    sheet: &[u32],
+    scratch: &mut [u32],
 ) -> usize
-    requires { ⌜ Looking sh (now sheet) (now choice) (now scratch) n ⌝ }
+    requires { ⌜ Looking sh (now choice) (now sheet) (now scratch) n ⌝ }
     requires { ⌜ Ends sh (now scratch) c u v when ⌝ }
-    requires { ⌜ (sh .free ≤ c) × RowItem (residual sh (now sheet) (now scratch)) u c ⌝ }
-    ensures { λ r. ⌜ Looked sh (now (sheet .entry)) (now (choice .entry)) (now (scratch .entry)) (now (scratch .exit)) u (sh .groups + c) n r ⌝ }
+    requires { ⌜ (sh .free ≤ c) × RowItem (residualOf sh (now sheet) (now scratch)) u c ⌝ }
+    ensures { λ r. ⌜ Looked sh (now (choice .entry)) (now (sheet .entry)) (now (scratch .entry)) (now (scratch .exit)) u (sh .groups + c) n r ⌝ }
 {
     let g = sh.groups;
-    let leads = kept(choice, c) == when;
-    look(scratch, sh, v, g + c, leads, n)
+    let leads = kept(c, choice) == when;
+    look(sh, v, g + c, leads, n, scratch)
 }
 
 // Looks along item j of node u.
 fn look_item(
-    scratch: &mut [u32],
-    sheet: &[u32],
-    choice: &[u8],
     sh: Shape,
     u: usize,
     j: usize,
     n: usize,
+    choice: &[u8],
+    sheet: &[u32],
+    scratch: &mut [u32],
 ) -> usize
-    requires { ⌜ Looking sh (now sheet) (now choice) (now scratch) n ⌝ }
+    requires { ⌜ Looking sh (now choice) (now sheet) (now scratch) n ⌝ }
     requires { ⌜ AtItem sh (now sheet) (now scratch) u j ⌝ }
-    ensures { λ r. ⌜ Looked sh (now (sheet .entry)) (now (choice .entry)) (now (scratch .entry)) (now (scratch .exit)) u (arcAt (network sh (now (scratch .entry))) j) n r ⌝ }
+    ensures { λ r. ⌜ Looked sh (now (choice .entry)) (now (sheet .entry)) (now (scratch .entry)) (now (scratch .exit)) u (arcAt (netOf sh (now (scratch .entry))) j) n r ⌝ }
 {
     let rows = sh.rows;
     if rows <= j {
-        return look_down(scratch, sheet, choice, sh, u, j - rows, n);
+        return look_down(sh, u, j - rows, n, choice, sheet, scratch);
     }
-    let a = card(scratch, sh, j);
-    let b = shop(scratch, sh, j);
+    let a = card(sh, j, scratch);
+    let b = shop(sh, j, scratch);
     if a == u {
-        return look_row(scratch, sheet, choice, sh, a, b, j, 0, n);
+        return look_row(sh, a, b, j, 0, n, choice, sheet, scratch);
     }
-    look_row(scratch, sheet, choice, sh, b, a, j, 1, n)
+    look_row(sh, b, a, j, 1, n, choice, sheet, scratch)
 }
 
 // The item after j at node u.
-pub fn after(scratch: &[u32], sheet: &[u32], sh: Shape, u: usize, j: usize) -> usize
+pub fn after(sh: Shape, u: usize, j: usize, sheet: &[u32], scratch: &[u32]) -> usize
     requires { ⌜ AtItem sh (now sheet) (now scratch) u j ⌝ }
-    ensures { λ r. ⌜ Least (residual sh (now (sheet .entry)) (now (scratch .entry))) u (j + 1) r ⌝ }
+    ensures { λ r. ⌜ Least (residualOf sh (now (sheet .entry)) (now (scratch .entry))) u (j + 1) r ⌝ }
 {
     let rows = sh.rows;
     if rows <= j {
-        return after_child(scratch, sh, j - rows);
+        return after_child(sh, j - rows, scratch);
     }
-    if card(scratch, sh, j) == u {
-        return after_card(scratch, sh, j);
+    if card(sh, j, scratch) == u {
+        return after_card(sh, j, scratch);
     }
-    after_shop(scratch, sh, j)
+    after_shop(sh, j, scratch)
 }
 
 // Looks along the items of node u, which stands in place h of the queue.
 fn items(
-    scratch: &mut [u32],
-    sheet: &[u32],
-    choice: &[u8],
     sh: Shape,
     u: usize,
     h: usize,
     n: usize,
+    choice: &[u8],
+    sheet: &[u32],
+    scratch: &mut [u32],
 ) -> usize
-    requires { ⌜ Open sh (now sheet) (now choice) (now scratch) u h n ⌝ }
-    ensures { λ r. ⌜ Scanned sh (now (sheet .entry)) (now (choice .entry)) (now (scratch .entry)) (now (scratch .exit)) u h n r (ItemArc (residual sh (now (sheet .entry)) (now (scratch .entry))) u) ⌝ }
+    requires { ⌜ Open sh (now choice) (now sheet) (now scratch) u h n ⌝ }
+    ensures { λ r. ⌜ Scanned sh (now (choice .entry)) (now (sheet .entry)) (now (scratch .entry)) (now (scratch .exit)) u h n r (ItemArc (residualOf sh (now (sheet .entry)) (now (scratch .entry))) u) ⌝ }
 {
     let g = sh.groups;
     let rows = sh.rows;
     let end = rows + g;
-    let mut j = first(scratch, sh, u);
+    let mut j = first(sh, u, scratch);
     let mut k = n;
     while j < end {
-        k = look_item(scratch, sheet, choice, sh, u, j, k);
-        j = after(scratch, sheet, sh, u, j);
+        k = look_item(sh, u, j, k, choice, sheet, scratch);
+        j = after(sh, u, j, sheet, scratch);
     }
     k
 }
 
 // Looks up from node u, which stands in place h of the queue, where `rises` holds.
 fn look_above(
-    scratch: &mut [u32],
-    sheet: &[u32],
-    choice: &[u8],
     sh: Shape,
     u: usize,
     h: usize,
     n: usize,
     rises: bool,
+    choice: &[u8],
+    sheet: &[u32],
+    scratch: &mut [u32],
 ) -> usize
-    requires { ⌜ Open sh (now sheet) (now choice) (now scratch) u h n ⌝ }
+    requires { ⌜ Open sh (now choice) (now sheet) (now scratch) u h n ⌝ }
     requires { ⌜ (rises ≡ true → u < sh .groups) ⌝ }
-    ensures { λ r. ⌜ Scanned sh (now (sheet .entry)) (now (choice .entry)) (now (scratch .entry)) (now (scratch .exit)) u h n r (Rising sh u rises) ⌝ }
+    ensures { λ r. ⌜ Scanned sh (now (choice .entry)) (now (sheet .entry)) (now (scratch .entry)) (now (scratch .exit)) u h n r (Rising sh u rises) ⌝ }
 {
     if rises {
-        return look_up(scratch, sheet, choice, sh, u, n);
+        return look_up(sh, u, n, choice, sheet, scratch);
     }
     n
 }
@@ -240,64 +232,64 @@ fn look_above(
 // Looks along all arcs out of node u, which stands in place h of the queue: its items, and its up arc, at a card before them and at a
 // shop after them.
 fn scan(
-    scratch: &mut [u32],
-    sheet: &[u32],
-    choice: &[u8],
     sh: Shape,
     u: usize,
     h: usize,
     n: usize,
+    choice: &[u8],
+    sheet: &[u32],
+    scratch: &mut [u32],
 ) -> usize
-    requires { ⌜ Open sh (now sheet) (now choice) (now scratch) u h n ⌝ }
-    ensures { λ r. ⌜ Scanned sh (now (sheet .entry)) (now (choice .entry)) (now (scratch .entry)) (now (scratch .exit)) u h n r Every ⌝ }
+    requires { ⌜ Open sh (now choice) (now sheet) (now scratch) u h n ⌝ }
+    ensures { λ r. ⌜ Scanned sh (now (choice .entry)) (now (sheet .entry)) (now (scratch .entry)) (now (scratch .exit)) u h n r Every ⌝ }
 {
     let cards = sh.cards;
     let g = sh.groups;
-    let k = look_above(scratch, sheet, choice, sh, u, h, n, u < cards);
-    let m = items(scratch, sheet, choice, sh, u, h, k);
-    look_above(scratch, sheet, choice, sh, u, h, m, (cards <= u) & (u < g))
+    let k = look_above(sh, u, h, n, u < cards, choice, sheet, scratch);
+    let m = items(sh, u, h, k, choice, sheet, scratch);
+    look_above(sh, u, h, m, (cards <= u) & (u < g), choice, sheet, scratch)
 }
 
 // Brings the last of n nodes of the queue to place h, for the one that stood there. The answer is that node.
-fn newest(scratch: &mut [u32], sh: Shape, h: usize, n: usize) -> usize
+fn newest(sh: Shape, h: usize, n: usize, scratch: &mut [u32]) -> usize
     requires { ⌜ Queued sh (now scratch) n ⌝ }
     requires { ⌜ h < n ⌝ }
     ensures { λ r. ⌜ Newest sh (now (scratch .entry)) (now (scratch .exit)) h n r ⌝ }
 {
-    let was = queue(scratch, sh, h);
-    let last = queue(scratch, sh, n - 1);
-    set_queue(scratch, sh, n - 1, was);
-    set_queue(scratch, sh, h, last);
+    let was = queue(sh, h, scratch);
+    let last = queue(sh, n - 1, scratch);
+    set_queue(sh, n - 1, was, scratch);
+    set_queue(sh, h, last, scratch);
     last
 }
 
 // The node to go on from, in place h of n nodes of the queue: the newest one while all rows are free, so that a way to the sink is found
 // early; else the one that stands there, so that the way of an exchange is short.
-fn take_next(scratch: &mut [u32], sh: Shape, h: usize, n: usize) -> usize
+fn take_next(sh: Shape, h: usize, n: usize, scratch: &mut [u32]) -> usize
     requires { ⌜ Queued sh (now scratch) n ⌝ }
     requires { ⌜ h < n ⌝ }
     ensures { λ r. ⌜ Next sh (now (scratch .entry)) (now (scratch .exit)) h n r ⌝ }
 {
     let free = sh.free;
     if free > 0 {
-        return queue(scratch, sh, h);
+        return queue(sh, h, scratch);
     }
-    newest(scratch, sh, h, n)
+    newest(sh, h, n, scratch)
 }
 
 // Goes through the queue until the target is reached or the queue ends. The answer is how many nodes are reached.
-fn spread(scratch: &mut [u32], sheet: &[u32], choice: &[u8], sh: Shape, target: usize) -> usize
-    requires { ⌜ Seeded sh (now sheet) (now choice) (now scratch) target ⌝ }
-    ensures { λ r. ⌜ Searched sh (now (sheet .entry)) (now (choice .entry)) (now (scratch .entry)) (now (scratch .exit)) (queueOf sh (now (scratch .entry)) 0) target r ⌝ }
+fn spread(sh: Shape, target: usize, choice: &[u8], sheet: &[u32], scratch: &mut [u32]) -> usize
+    requires { ⌜ Seeded sh (now choice) (now sheet) (now scratch) target ⌝ }
+    ensures { λ r. ⌜ Searched sh (now (choice .entry)) (now (sheet .entry)) (now (scratch .entry)) (now (scratch .exit)) (queueOf sh (now (scratch .entry)) 0) target r ⌝ }
 {
     let mut n: usize = 1;
     let mut h: usize = 0;
     while h < n {
-        if label(scratch, sh, target) != sh.fresh {
+        if label(sh, target, scratch) != sh.fresh {
             return n;
         }
-        let u = take_next(scratch, sh, h, n);
-        n = scan(scratch, sheet, choice, sh, u, h, n);
+        let u = take_next(sh, h, n, scratch);
+        n = scan(sh, u, h, n, choice, sheet, scratch);
         h += 1;
     }
     n
@@ -305,43 +297,43 @@ fn spread(scratch: &mut [u32], sheet: &[u32], choice: &[u8], sh: Shape, target: 
 
 // Searches open arcs from the start until the target is reached or no arc is left. The answer is how many nodes are reached.
 pub fn search(
-    scratch: &mut [u32],
-    sheet: &[u32],
-    choice: &[u8],
     sh: Shape,
     start: usize,
     target: usize,
+    choice: &[u8],
+    sheet: &[u32],
+    scratch: &mut [u32],
 ) -> usize
-    requires { ⌜ Asked sh (now sheet) (now choice) (now scratch) start target ⌝ }
-    ensures { λ r. ⌜ Searched sh (now (sheet .entry)) (now (choice .entry)) (now (scratch .entry)) (now (scratch .exit)) start target r ⌝ }
+    requires { ⌜ Asked sh (now choice) (now sheet) (now scratch) start target ⌝ }
+    ensures { λ r. ⌜ Searched sh (now (choice .entry)) (now (sheet .entry)) (now (scratch .entry)) (now (scratch .exit)) start target r ⌝ }
 {
     let g = sh.groups;
     let rows = sh.rows;
     // the start is reached by a number that no arc has
-    reach(scratch, sh, start, 2 * g + rows, 0);
-    spread(scratch, sheet, choice, sh, target)
+    reach(sh, start, 2 * g + rows, 0, scratch);
+    spread(sh, target, choice, sheet, scratch)
 }
 
 // Gives the label x to the nodes in the first n places of the queue.
-pub fn relabel(scratch: &mut [u32], sh: Shape, n: usize, x: usize)
+pub fn relabel(sh: Shape, n: usize, x: usize, scratch: &mut [u32])
     requires { ⌜ Queued sh (now scratch) n ⌝ }
-    requires { ⌜ x < 4294967296 ⌝ }
+    requires { ⌜ x < cellBound ⌝ }
     ensures { λ _. ⌜ Relabelled sh (now (scratch .entry)) (now (scratch .exit)) n x ⌝ }
 {
     for i in 0..n {
-        let v = queue(scratch, sh, i);
-        set_label(scratch, sh, v, x);
+        let v = queue(sh, i, scratch);
+        set_label(sh, v, x, scratch);
     }
 }
 
 // Every node becomes fresh.
-pub fn refresh(scratch: &mut [u32], sh: Shape)
+pub fn refresh(sh: Shape, scratch: &mut [u32])
     requires { ⌜ Room sh (now scratch) ⌝ }
     ensures { λ _. ⌜ Refreshed sh (now (scratch .entry)) (now (scratch .exit)) (sh .groups + 2) ⌝ }
 {
     let g = sh.groups;
     let fresh = sh.fresh;
     for v in 0..g + 2 {
-        set_label(scratch, sh, v, fresh);
+        set_label(sh, v, fresh, scratch);
     }
 }

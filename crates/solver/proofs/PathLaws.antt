@@ -7,44 +7,40 @@
 use mathlib.Core.Path.{_≡_, sym, ap, _∙_}
 use mathlib.Core.Logic.{inl, inr}
 use mathlib.Core.List.{List}
-use Prim.Native.Nat.{ℕ, _+_, _≤_}
+use Prim.Native.Nat.{ℕ, _+_}
 use native.Mathlib.Decide.{decLt}
 use native.Mathlib.Omega.{arith}
 use Rattle.theory.specs.Residual.{Residual}
 use Rattle.theory.specs.Turn.{Flipped, Inside}
-use Rattle.theory.proofs.SumLaws.{sum-le, sum-one, is-small}
 use Rattle.residual.specs.declared.Shape.{Shape}
 use Rattle.residual.specs.Map.{Room, labelOf, predOf, queueOf, spareOf, labels, queues, spares}
-use Rattle.residual.specs.Reach.{reached, Reach}
+use Rattle.residual.specs.Reach.{Reach}
 use Rattle.residual.specs.Search.{ReachOf, Queued, Relabelled}
 use Rattle.residual.specs.Flip.{Walked}
 use Rattle.residual.proofs.MapLaws.{keeps-more, keeps-then, room-keeps}
+use Rattle.residual.proofs.ReachLaws.{reached-most}
 use Rattle.solver.specs.Path.{Renamed, Found, TurnedBack}
 
-reached-most : (pred : ℕ → ℕ) (m : ℕ) → reached pred m ≤ m
-unfolding reached
-reached-most pred m = omega (arith, sum-le m {g = λ v. 1} (λ v l. is-small (decLt 0 (pred v))), sum-one m)
-
--- the tables t have the labels and the queue of s
+-- the tables t′ have the labels and the queue of t
 module _
-    (sh : Shape) (sheet ch s : List ℕ) {n : ℕ} (R : ReachOf sh sheet ch s s n n) {t : List ℕ}
-    (queue : queueOf sh t ≡ queueOf sh s)
+    (sh : Shape) (ch sheet t : List ℕ) {n : ℕ} (R : ReachOf sh ch sheet t t n n) {t′ : List ℕ}
+    (queue : queueOf sh t′ ≡ queueOf sh t)
   where
-    pub queued-reach : Room sh t → Queued sh t n
+    pub queued-reach : Room sh t′ → Queued sh t′ n
     queued-reach room = record {
       room = room;
-      most = omega (arith, R .size, reached-most (predOf sh s) (sh .groups + 2));
+      most = omega (arith, R .size, reached-most (predOf sh t) (sh .groups + 2));
       node = λ i l. omega (arith, R .node i l, ap (λ (f : ℕ → ℕ). f i) queue);
     }
 
     pub renamed-reach :
-        labelOf sh t ≡ labelOf sh s → {t′ : List ℕ} {x : ℕ} → Relabelled sh t t′ n x → Renamed sh s t′ x
-    renamed-reach label {t′} {x} L v node =
-        elim (decLt 0 (predOf sh s v)) [
+        labelOf sh t′ ≡ labelOf sh t → {t″ : List ℕ} {x : ℕ} → Relabelled sh t′ t″ n x → Renamed sh t t″ x
+    renamed-reach label {t″} {x} L v node =
+        elim (decLt 0 (predOf sh t v)) [
           | yes some ↦
               let at = R .spot v node some in
-              let place : queueOf sh t (at .0) ≡ v = ap (λ (f : ℕ → ℕ). f (at .0)) queue ∙ at .2 in
-              inl (some, sym (ap (labelOf sh t′) place) ∙ L .given (at .0) (at .1))
+              let place : queueOf sh t′ (at .0) ≡ v = ap (λ (f : ℕ → ℕ). f (at .0)) queue ∙ at .2 in
+              inl (some, sym (ap (labelOf sh t″) place) ∙ L .given (at .0) (at .1))
           | no none ↦
               inr (
                 omega arith,
@@ -54,7 +50,7 @@ module _
                     (omega (
                       arith,
                       R .seen i l,
-                      ap (predOf sh s) (sym (ap (λ (f : ℕ → ℕ). f i) queue) ∙ e),
+                      ap (predOf sh t) (sym (ap (λ (f : ℕ → ℕ). f i) queue) ∙ e),
                     )))
                     ∙ ap (λ (f : ℕ → ℕ). f v) label,
               )
@@ -75,25 +71,25 @@ inside-spare :
     {r : Residual} {R S f S′ f′ f″ : ℕ → ℕ} → f″ ≡ f′ → Inside r R S f S′ f′ → Inside r R S f S′ f″
 inside-spare e F = rw e F
 
-module _ {sh : Shape} {sheet ch s : List ℕ} {start target n : ℕ} (F : Found sh sheet ch s start target n) where
-  pub found-reach : ReachOf sh sheet ch s s n n
+module _ {sh : Shape} {ch sheet t : List ℕ} {start target n : ℕ} (F : Found sh ch sheet t start target n) where
+  pub found-reach : ReachOf sh ch sheet t t n n
   found-reach = reach-count (F .count) (F .path .reach)
 
-  module _ {ch′ t : List ℕ} (W : Walked sh sheet ch s ch′ t start target) where
-    pub found-queued : Queued sh t n
+  module _ {ch′ t′ : List ℕ} (W : Walked sh ch sheet t ch′ t′ start target) where
+    pub found-queued : Queued sh t′ n
     found-queued =
-        queued-reach sh sheet ch s found-reach (W .only .rest queues (λ p. omega arith))
+        queued-reach sh ch sheet t found-reach (W .only .rest queues (λ p. omega arith))
         (room-keeps (W .only .long) (F .path .ready .buffers .room))
 
     pub turned-back :
-        {t′ : List ℕ} → Relabelled sh t t′ n (sh .fresh) → TurnedBack sh sheet ch s ch′ t′ start target
-    turned-back {t′} L =
-        let spare : spareOf sh t′ ≡ spareOf sh t = L .only .rest spares (λ p. omega arith) in
+        {t″ : List ℕ} → Relabelled sh t′ t″ n (sh .fresh) → TurnedBack sh ch sheet t ch′ t″ start target
+    turned-back {t″} L =
+        let spare : spareOf sh t″ ≡ spareOf sh t′ = L .only .rest spares (λ p. omega arith) in
         record {
           only = keeps-then (keeps-more (λ l e. omega arith) (W .only)) (keeps-more (λ l e. omega arith) (L .only));
           long = W .long;
           flip = flipped-spare spare (W .flip);
           inside = inside-spare spare (W .inside);
           labels =
-              renamed-reach sh sheet ch s found-reach (W .only .rest queues (λ p. omega arith)) (W .only .rest labels (λ p. omega arith)) L;
+              renamed-reach sh ch sheet t found-reach (W .only .rest queues (λ p. omega arith)) (W .only .rest labels (λ p. omega arith)) L;
         }

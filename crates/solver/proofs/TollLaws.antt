@@ -36,21 +36,21 @@ use Rattle.solver.proofs.PathLaws.{renamed-reach}
 -- Every node is fresh
 
 pub renamed-fresh :
-    (sh : Shape) (s t : List ℕ) → ((v : ℕ) → v < sh .groups + 2 → predOf sh s v ≡ 0 → labelOf sh s v ≡ sh .fresh) →
-    Renamed sh s t (sh .fresh) → AllFresh sh t
-renamed-fresh sh s t rest A v l = ⊎-elim (λ h. h .1) (λ h. h .1 ∙ rest v l (h .0)) (A v l)
+    (sh : Shape) (t t′ : List ℕ) → ((v : ℕ) → v < sh .groups + 2 → predOf sh t v ≡ 0 → labelOf sh t v ≡ sh .fresh) →
+    Renamed sh t t′ (sh .fresh) → AllFresh sh t′
+renamed-fresh sh t t′ rest A v l = ⊎-elim (λ h. h .1) (λ h. h .1 ∙ rest v l (h .0)) (A v l)
 
-pub fresh-kept : (sh : Shape) (s t : List ℕ) → labelOf sh t ≡ labelOf sh s → AllFresh sh s → AllFresh sh t
-fresh-kept sh s t e F v l = ap (λ (f : ℕ → ℕ). f v) e ∙ F v l
+pub fresh-kept : (sh : Shape) (t t′ : List ℕ) → labelOf sh t′ ≡ labelOf sh t → AllFresh sh t → AllFresh sh t′
+fresh-kept sh t t′ e F v l = ap (λ (f : ℕ → ℕ). f v) e ∙ F v l
 
 --------------------------------------------------------------------------------
 -- Turn after turn
 
 pub lowered-none :
-    {sh : Shape} {sheet ch s : List ℕ} → State sh sheet ch s → Lists sh sheet s → AllFresh sh s →
-    Lowered sh sheet ch s (sh .toll) sheet ch s
-lowered-none {sh} {sheet} {ch} {s} I L F = record {
-  state = state-toll sh ch s (sh .toll) sheet sheet I refl (I .level) (I .range);
+    {sh : Shape} {ch sheet t : List ℕ} → State sh ch sheet t → Lists sh sheet t → AllFresh sh t →
+    Lowered sh ch sheet t (sh .toll) ch sheet t
+lowered-none {sh} {ch} {sheet} {t} I L F = record {
+  state = state-toll sh ch t (sh .toll) sheet sheet I refl (I .level) (I .range);
   lists = L;
   keeps = keeps-none;
   limits = λ v l. refl;
@@ -58,10 +58,10 @@ lowered-none {sh} {sheet} {ch} {s} I L F = record {
   fresh = F;
 }
 
-module _ {sh : Shape} {sheet ch s : List ℕ} {toll : ℕ} {sheet′ ch′ s′ : List ℕ} (A : Lowered sh sheet ch s toll sheet′ ch′ s′) where
+module _ {sh : Shape} {ch sheet t : List ℕ} {toll : ℕ} {ch′ sheet′ t′ : List ℕ} (A : Lowered sh ch sheet t toll ch′ sheet′ t′) where
   pub lowered-then :
-      {toll″ : ℕ} {sheet″ ch″ s″ : List ℕ} → Lowered (withToll sh toll) sheet′ ch′ s′ toll″ sheet″ ch″ s″ →
-      Lowered sh sheet ch s toll″ sheet″ ch″ s″
+      {toll″ : ℕ} {ch″ sheet″ t″ : List ℕ} → Lowered (withToll sh toll) ch′ sheet′ t′ toll″ ch″ sheet″ t″ →
+      Lowered sh ch sheet t toll″ ch″ sheet″ t″
   unfolding limitOf
   lowered-then B = record {
     state = B .state;
@@ -72,7 +72,7 @@ module _ {sh : Shape} {sheet ch s : List ℕ} {toll : ℕ} {sheet′ ch′ s′ 
     fresh = B .fresh;
   }
 
-  pub lowered-running : Running sh sheet ch s → Running (withToll sh toll) sheet′ ch′ s′
+  pub lowered-running : Running sh ch sheet t → Running (withToll sh toll) ch′ sheet′ t′
   lowered-running R = record {
     state = A .state;
     lists = A .lists;
@@ -83,8 +83,8 @@ module _ {sh : Shape} {sheet ch s : List ℕ} {toll : ℕ} {sheet′ ch′ s′ 
 --------------------------------------------------------------------------------
 -- The search
 
-module _ {sh : Shape} {sheet ch s : List ℕ} (R : Running sh sheet ch s) where
-  pub running-asked : Asked sh sheet ch s (sh .groups) (sh .groups + 1)
+module _ {sh : Shape} {ch sheet t : List ℕ} (R : Running sh ch sheet t) where
+  pub running-asked : Asked sh ch sheet t (sh .groups) (sh .groups + 1)
   running-asked = record {
     ready = state-ready (R .state);
     free = omega (arith, R .all);
@@ -93,14 +93,14 @@ module _ {sh : Shape} {sheet ch s : List ℕ} (R : Running sh sheet ch s) where
     target-node = omega arith;
     start-fresh = R .fresh (sh .groups) (omega arith);
     target-fresh = R .fresh (sh .groups + 1) (omega arith);
-    dark = λ v l. arc-in-same (sh .fresh) (labelOf sh s v) (R .fresh v l);
+    dark = λ v l. arc-in-same (sh .fresh) (labelOf sh t v) (R .fresh v l);
   }
 
-  module _ {t : List ℕ} {n : ℕ} (X : Searched sh sheet ch s t (sh .groups) (sh .groups + 1) n) where
-    rest-fresh : (v : ℕ) → v < sh .groups + 2 → predOf sh t v ≡ 0 → labelOf sh t v ≡ sh .fresh
+  module _ {t′ : List ℕ} {n : ℕ} (X : Searched sh ch sheet t t′ (sh .groups) (sh .groups + 1) n) where
+    rest-fresh : (v : ℕ) → v < sh .groups + 2 → predOf sh t′ v ≡ 0 → labelOf sh t′ v ≡ sh .fresh
     rest-fresh v l none = searched-rest X v none ∙ R .fresh v l
 
-    pub searched-failed : predOf sh t (sh .groups + 1) ≡ 0 → Failed sh sheet ch t n
+    pub searched-failed : predOf sh t′ (sh .groups + 1) ≡ 0 → Failed sh ch sheet t′ n
     searched-failed lost = record {
       cut = record {
         state = state-unread (unread-search (X .only)) (R .state);
@@ -112,9 +112,9 @@ module _ {sh : Shape} {sheet ch s : List ℕ} (R : Running sh sheet ch s) where
     }
 
 pub moved-unread :
-    {sh : Shape} {sheet ch s t : List ℕ} {toll : ℕ} {sheet′ ch′ s′ : List ℕ} → OnlyUnread sh s t →
-    Moved sh sheet ch t toll sheet′ ch′ s′ → Moved sh sheet ch s toll sheet′ ch′ s′
-moved-unread {sh} {sheet} {ch} A M = record {
+    {sh : Shape} {ch sheet t t₁ : List ℕ} {toll : ℕ} {ch′ sheet′ t′ : List ℕ} → OnlyUnread sh t t₁ →
+    Moved sh ch sheet t₁ toll ch′ sheet′ t′ → Moved sh ch sheet t toll ch′ sheet′ t′
+moved-unread {sh} {ch} {sheet} A M = record {
   lowered = record {
     state = M .lowered .state;
     lists = M .lowered .lists;
@@ -130,21 +130,21 @@ moved-unread {sh} {sheet} {ch} A M = record {
 -- A path to the sink
 
 -- no selection has more rows than there are
-size-most : {sh : Shape} {sheet ch s : List ℕ} → State sh sheet ch s → size (sh .rows) (keptOf ch) ≤ sh .rows
-size-most {sh} {sheet} {ch} I =
+size-most : {sh : Shape} {ch sheet t : List ℕ} → State sh ch sheet t → size (sh .rows) (keptOf ch) ≤ sh .rows
+size-most {sh} {ch} {sheet} I =
     omega (arith, sum-le (sh .rows) {f = keptOf ch} {g = λ c. 1} (I .level .choice .bits), sum-one (sh .rows))
 
 pub moved-path :
-    {sh : Shape} {sheet ch s t ch′ s′ : List ℕ} {n : ℕ} → Running sh sheet ch s →
-    Searched sh sheet ch s t (sh .groups) (sh .groups + 1) n →
-    TurnedBack sh sheet ch t ch′ s′ (sh .groups) (sh .groups + 1) → Moved sh sheet ch s (sh .toll) sheet ch′ s′
-moved-path {sh} {sheet} {ch} {s} {t} {ch′} {s′} R X W =
+    {sh : Shape} {ch sheet t t₁ ch′ t′ : List ℕ} {n : ℕ} → Running sh ch sheet t →
+    Searched sh ch sheet t t₁ (sh .groups) (sh .groups + 1) n →
+    TurnedBack sh ch sheet t₁ ch′ t′ (sh .groups) (sh .groups + 1) → Moved sh ch sheet t (sh .toll) ch′ sheet t′
+moved-path {sh} {ch} {sheet} {t} {t₁} {ch′} {t′} R X W =
     let K = unread-search (X .only) in
-    let J : State sh sheet ch t = state-unread K (R .state) in
+    let J : State sh ch sheet t₁ = state-unread K (R .state) in
     let F = path-filled J (moves-keeps (W .only)) ch′ (W .long) (W .flip) in
-    let only : OnlyMoves sh s s′ = keeps-then (keeps-more (λ l p. omega arith) (X .only)) (W .only) in
-    let lists : Lists sh sheet s′ = lists-keeps only sheet (R .lists) in
-    let fresh = renamed-fresh sh t s′ (rest-fresh R X) (W .labels) in
+    let only : OnlyMoves sh t t′ = keeps-then (keeps-more (λ l p. omega arith) (X .only)) (W .only) in
+    let lists : Lists sh sheet t′ = lists-keeps only sheet (R .lists) in
+    let fresh = renamed-fresh sh t₁ t′ (rest-fresh R X) (W .labels) in
     moved-unread K
     (record {
       lowered = record {
@@ -162,34 +162,34 @@ moved-path {sh} {sheet} {ch} {s} {t} {ch′} {s′} R X W =
 -- The toll falls
 
 module _
-    {sh : Shape} {sheet ch s sheet′ t : List ℕ} {n r : ℕ} (X : Stepped sh sheet ch s sheet′ r)
-    (N : Relabelled sh s t n (sh .fresh))
+    {sh : Shape} {ch sheet t sheet′ t₁ : List ℕ} {n r : ℕ} (X : Stepped sh ch sheet t sheet′ r)
+    (N : Relabelled sh t t₁ n (sh .fresh))
   where
     abbrev next : Shape
     next = withToll sh (sh .toll - r)
 
-    pub stepped-state : State next sheet′ ch t
+    pub stepped-state : State next ch sheet′ t₁
     stepped-state =
         state-unread (keeps-sized sh (sh .free) (sh .toll - r) (sh .fresh) (unread-labels (N .only))) (X .state)
 
     -- the lists of the new prices are built
-    module _ {t₁ : List ℕ} (L : Listed next sheet′ t t₁) where
-      pub linked-state : State next sheet′ ch t₁
+    module _ {t₂ : List ℕ} (L : Listed next sheet′ t₁ t₂) where
+      pub linked-state : State next ch sheet′ t₂
       linked-state = state-unread (unread-lists (L .only)) stepped-state
 
-      fresh-linked : Failed sh sheet ch s n → AllFresh sh t₁
+      fresh-linked : Failed sh ch sheet t n → AllFresh sh t₂
       fresh-linked F =
-          fresh-kept sh t t₁ (L .only .rest labels (λ p. omega (arith, p .0)))
-          (renamed-fresh sh s t (F .rest) (renamed-reach sh sheet ch s (F .reach) refl refl N))
+          fresh-kept sh t₁ t₂ (L .only .rest labels (λ p. omega (arith, p .0)))
+          (renamed-fresh sh t t₁ (F .rest) (renamed-reach sh ch sheet t (F .reach) refl refl N))
 
       -- and rows are kept
-      module _ {ch′ s′ : List ℕ} (F : Failed sh sheet ch s n) (A : Added next sheet′ ch t₁ ch′ s′) where
-        lists : Lists next sheet′ s′
+      module _ {ch′ t′ : List ℕ} (F : Failed sh ch sheet t n) (A : Added next ch sheet′ t₂ ch′ t′) where
+        lists : Lists next sheet′ t′
         lists =
             lists-keeps (keeps-more (λ l p. omega (arith, p .1)) (A .only)) sheet′
-            (subst (λ (lo : ℕ). Links next sheet′ t₁ lo) (sym (F .cut .all)) (L .lists))
+            (subst (λ (lo : ℕ). Links next sheet′ t₂ lo) (sym (F .cut .all)) (L .lists))
 
-        pub moved-step : Moved sh sheet ch s (sh .toll - r) sheet′ ch′ s′
+        pub moved-step : Moved sh ch sheet t (sh .toll - r) ch′ sheet′ t′
         unfolding limitOf
         moved-step =
             moved-unread (unread-labels (N .only))
@@ -201,7 +201,7 @@ module _
                 keeps = keeps-sized next (sh .free) (sh .toll) (sh .fresh) (A .filled .keeps);
                 limits = A .filled .limits;
                 range = X .range;
-                fresh = fresh-kept sh t₁ s′ (added-labels A) (fresh-linked F);
+                fresh = fresh-kept sh t₂ t′ (added-labels A) (fresh-linked F);
               };
               falls = λ l. omega (arith, X .low, X .some l, A .filled .more);
             }))

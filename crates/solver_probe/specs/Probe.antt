@@ -1,9 +1,10 @@
 -- The tables that the solver takes, as a test of the numbers that they hold.
 --   Hangs u first past root    u is a node from `first` on and before `past`, or the root
 --   GroupFormed RowFormed      one group's part of a well formed network, and one row's
---   GroupsFormed RowsFormed    the same for the first groups, and for the first rows
---   IsNetwork sh s             the network is well formed, its limits are low and its weights are at most the toll
---   Lent sh sheet ch s         what solving asks besides: the lengths of the buffers, no row barred, a toll that is low enough, and 0 as the
+--   ItemFormed sh t i          row i is formed, or group i - rows
+--   ItemsFormed sh t n         the first n of these are
+--   IsNetwork sh t             the network is well formed, its limits are low and its weights are at most the toll
+--   Lent sh ch sheet t         what solving asks besides: the lengths of the buffers, no row barred, a toll that is low enough, and 0 as the
 --                              label of fresh nodes
 --   Lengths sh given-groups given-rows scratch    the lengths that the shape needs
 use mathlib.Core.Path.{_≡_}
@@ -11,38 +12,39 @@ use mathlib.Core.Logic.{_⊎_}
 use mathlib.Core.List.{List}
 use Prim.Native.Nat.{ℕ, _+_, _*_, _≤_, _<_}
 use lib.ListN.{length}
+use Rattle.theory.specs.Bounds.{maxLimit}
 use Rattle.theory.specs.Network.{Formed}
 use Rattle.residual.specs.declared.Shape.{Shape}
 use Rattle.residual.specs.Map.{Few, Room, cells, spareOf, parentOf, cardOf, shopOf, weightOf}
 use Rattle.residual.specs.View.{netOf}
-use Rattle.solver.specs.State.{highest}
+use Rattle.residual.specs.State.{highest}
 
 abbrev pub Hangs : ℕ → ℕ → ℕ → ℕ → Type 0
 Hangs u first past root = ((first ≤ u) × (u < past)) ⊎ (u ≡ root)
 
-pub record GroupFormed (sh : Shape) (s : List ℕ) (v : ℕ) : Type 0 where
-  pub card : v < sh .cards → Hangs (parentOf sh s v) 0 v (sh .groups)
-  pub shop : sh .cards ≤ v → Hangs (parentOf sh s v) (sh .cards) v (sh .groups + 1)
-  pub low : spareOf sh s v ≤ 65535
+pub record GroupFormed (sh : Shape) (t : List ℕ) (v : ℕ) : Type 0 where
+  pub card : v < sh .cards → Hangs (parentOf sh t v) 0 v (sh .groups)
+  pub shop : sh .cards ≤ v → Hangs (parentOf sh t v) (sh .cards) v (sh .groups + 1)
+  pub low : spareOf sh t v ≤ maxLimit
 
-pub record RowFormed (sh : Shape) (s : List ℕ) (c : ℕ) : Type 0 where
-  pub card : Hangs (cardOf sh s c) 0 (sh .cards) (sh .groups)
-  pub shop : Hangs (shopOf sh s c) (sh .cards) (sh .groups) (sh .groups + 1)
-  pub light : weightOf sh s c ≤ sh .toll
+pub record RowFormed (sh : Shape) (t : List ℕ) (c : ℕ) : Type 0 where
+  pub card : Hangs (cardOf sh t c) 0 (sh .cards) (sh .groups)
+  pub shop : Hangs (shopOf sh t c) (sh .cards) (sh .groups) (sh .groups + 1)
+  pub light : weightOf sh t c ≤ sh .toll
 
-abbrev pub GroupsFormed : Shape → List ℕ → ℕ → Type 0
-GroupsFormed sh s n = (v : ℕ) → v < n → GroupFormed sh s v
+abbrev pub ItemFormed : Shape → List ℕ → ℕ → Type 0
+ItemFormed sh t i = (i < sh .rows → RowFormed sh t i) × ((v : ℕ) → i ≡ sh .rows + v → GroupFormed sh t v)
 
-abbrev pub RowsFormed : Shape → List ℕ → ℕ → Type 0
-RowsFormed sh s n = (c : ℕ) → c < n → RowFormed sh s c
+abbrev pub ItemsFormed : Shape → List ℕ → ℕ → Type 0
+ItemsFormed sh t n = (i : ℕ) → i < n → ItemFormed sh t i
 
-pub record IsNetwork (sh : Shape) (s : List ℕ) : Type 0 where
-  pub formed : Formed (netOf sh s)
-  pub low : (v : ℕ) → v < sh .groups → spareOf sh s v ≤ 65535
-  pub light : (c : ℕ) → c < sh .rows → weightOf sh s c ≤ sh .toll
+pub record IsNetwork (sh : Shape) (t : List ℕ) : Type 0 where
+  pub formed : Formed (netOf sh t)
+  pub low : (v : ℕ) → v < sh .groups → spareOf sh t v ≤ maxLimit
+  pub light : (c : ℕ) → c < sh .rows → weightOf sh t c ≤ sh .toll
 
-pub record Lent (sh : Shape) (sheet ch s : List ℕ) : Type 0 where
-  pub room : Room sh s
+pub record Lent (sh : Shape) (ch sheet t : List ℕ) : Type 0 where
+  pub room : Room sh t
   pub all : sh .free ≡ 0
   pub fresh : sh .fresh ≡ 0
   pub high : sh .toll ≤ highest

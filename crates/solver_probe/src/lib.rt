@@ -3,30 +3,30 @@ ghost use mathlib.Core.Bool.{true};
 ghost use mathlib.Core.Path.{_≡_};
 ghost use Prim.Native.Nat.{_+_, _*_, _≤_, _<_};
 ghost use lib.ListN.{length};
-ghost use Rattle.residual.specs.Map.{Room};
+ghost use Rattle.theory.specs.Bounds.{maxRows, cellBound};
+ghost use Rattle.residual.specs.Map.{width, Room};
 ghost use Rattle.solver.specs.Solve.{Solved};
-ghost use Rattle.solver_probe.specs.Probe.{Hangs, GroupFormed, RowFormed, GroupsFormed, RowsFormed, IsNetwork, Lent, Lengths};
+ghost use Rattle.solver_probe.specs.Probe.{Hangs, GroupFormed, RowFormed, ItemFormed, ItemsFormed, IsNetwork, Lent, Lengths};
 use residual::Shape;
+use residual::map::CARD_NODES;
+use residual::map::HIGHEST;
+use residual::map::PARENTS;
+use residual::map::SHOP_NODES;
+use residual::map::SPARES;
+use residual::map::WEIGHTS;
 use residual::map::card;
 use residual::map::parent;
-use residual::map::set_card;
-use residual::map::set_parent;
-use residual::map::set_shop;
-use residual::map::set_spare;
-use residual::map::set_weight;
+use residual::map::set_cell;
 use residual::map::shop;
 use residual::map::spare;
 use residual::map::weight;
 use solver::solve::solve;
-
-const MOST: usize = 512;
-
-const HIGHEST: usize = 1000000000;
-
-const MOST_LIMIT: usize = 65535;
+use theory::MAX_GROUPS;
+use theory::MAX_LIMIT;
+use theory::MAX_ROWS;
 
 fn wide(x: u32) -> usize
-    ensures { λ r. ⌜ r < 4294967296 ⌝ }
+    ensures { λ r. ⌜ r < cellBound ⌝ }
 {
     x as usize
 }
@@ -34,50 +34,37 @@ fn wide(x: u32) -> usize
 // Number i of those given.
 fn number(given: &[u32], i: usize) -> usize
     requires { ⌜ i < length (now given) ⌝ }
-    ensures { λ r. ⌜ r < 4294967296 ⌝ }
+    ensures { λ r. ⌜ r < cellBound ⌝ }
 {
     wide(given[i])
 }
 
-// Writes the parent and the limit of group v: number v of the first half of those given, and of the second.
-fn write_group(given: &[u32], scratch: &mut [u32], sh: Shape, v: usize)
-    requires { ⌜ (Room sh (now scratch)) × (length (now given) ≡ 2 * sh .groups) × (v < sh .groups) ⌝ }
+// Writes the first n cells of table k: number `from` of those given, and the ones after it.
+fn write_table(given: &[u32], sh: Shape, k: usize, from: usize, n: usize, scratch: &mut [u32])
+    requires { ⌜ Room sh (now scratch) ⌝ }
+    requires { ⌜ (k < 11) × (n ≤ width sh k) ⌝ }
+    requires { ⌜ (from + n ≤ 3 * maxRows) × (from + n ≤ length (now given)) ⌝ }
 {
-    let groups = sh.groups;
-    set_parent(scratch, sh, v, number(given, v));
-    set_spare(scratch, sh, v, number(given, groups + v));
-}
-
-fn write_groups(given: &[u32], scratch: &mut [u32], sh: Shape)
-    requires { ⌜ (Room sh (now scratch)) × (length (now given) ≡ 2 * sh .groups) ⌝ }
-{
-    let groups = sh.groups;
-    let mut v = 0;
-    while v < groups {
-        write_group(given, scratch, sh, v);
-        v += 1;
+    let mut i = 0;
+    while i < n {
+        set_cell(sh, k, i, number(given, from + i), scratch);
+        i += 1;
     }
 }
 
-// Writes the card node, the shop node and the weight of row c, from the three thirds of the numbers given.
-fn write_row(given: &[u32], scratch: &mut [u32], sh: Shape, c: usize)
-    requires { ⌜ (Room sh (now scratch)) × (length (now given) ≡ 3 * sh .rows) × (c < sh .rows) ⌝ }
+// Writes the tables: `groups` holds each group's parent and then each group's limit; `rows` holds each row's card node, then each shop
+// node, then each weight.
+fn write_tables(groups: &[u32], rows: &[u32], sh: Shape, scratch: &mut [u32])
+    requires { ⌜ Room sh (now scratch) ⌝ }
+    requires { ⌜ (length (now groups) ≡ 2 * sh .groups) × (length (now rows) ≡ 3 * sh .rows) ⌝ }
 {
-    let rows = sh.rows;
-    set_card(scratch, sh, c, number(given, c));
-    set_shop(scratch, sh, c, number(given, rows + c));
-    set_weight(scratch, sh, c, number(given, 2 * rows + c));
-}
-
-fn write_rows(given: &[u32], scratch: &mut [u32], sh: Shape)
-    requires { ⌜ (Room sh (now scratch)) × (length (now given) ≡ 3 * sh .rows) ⌝ }
-{
-    let rows = sh.rows;
-    let mut c = 0;
-    while c < rows {
-        write_row(given, scratch, sh, c);
-        c += 1;
-    }
+    let g = sh.groups;
+    let n = sh.rows;
+    write_table(groups, sh, PARENTS, 0, g, scratch);
+    write_table(groups, sh, SPARES, g, g, scratch);
+    write_table(rows, sh, CARD_NODES, 0, n, scratch);
+    write_table(rows, sh, SHOP_NODES, n, n, scratch);
+    write_table(rows, sh, WEIGHTS, 2 * n, n, scratch);
 }
 
 // Whether u is a node from `first` on and before `past`, or the root.
@@ -94,91 +81,86 @@ fn hangs(u: usize, first: usize, past: usize, root: usize) -> bool
 }
 
 // Whether group v's parent is a smaller node of its side or its side's root, and its limit is low enough.
-fn group_formed(scratch: &[u32], sh: Shape, v: usize) -> bool
+fn group_formed(sh: Shape, v: usize, scratch: &[u32]) -> bool
     requires { ⌜ (Room sh (now scratch)) × (v < sh .groups) ⌝ }
     ensures { λ r. ⌜ (r ≡ true → GroupFormed sh (now (scratch .entry)) v) ⌝ }
 {
     let cards = sh.cards;
     let groups = sh.groups;
-    if MOST_LIMIT < spare(scratch, sh, v) {
+    if MAX_LIMIT < spare(sh, v, scratch) {
         return false;
     }
-    let up = parent(scratch, sh, v);
+    let up = parent(sh, v, scratch);
     if v < cards {
         return hangs(up, 0, v, groups);
     }
     hangs(up, cards, v, groups + 1)
 }
 
-fn groups_formed(scratch: &[u32], sh: Shape) -> bool
-    requires { ⌜ Room sh (now scratch) ⌝ }
-    ensures { λ r. ⌜ (r ≡ true → GroupsFormed sh (now (scratch .entry)) (sh .groups)) ⌝ }
-{
-    let groups = sh.groups;
-    let mut v = 0;
-    while v < groups {
-        if !group_formed(scratch, sh, v) {
-            return false;
-        }
-        v += 1;
-    }
-    true
-}
-
 // Whether row c hangs at nodes of either side, and its weight is at most the toll.
-fn row_formed(scratch: &[u32], sh: Shape, c: usize) -> bool
+fn row_formed(sh: Shape, c: usize, scratch: &[u32]) -> bool
     requires { ⌜ (Room sh (now scratch)) × (c < sh .rows) ⌝ }
     ensures { λ r. ⌜ (r ≡ true → RowFormed sh (now (scratch .entry)) c) ⌝ }
 {
     let cards = sh.cards;
     let groups = sh.groups;
-    if sh.toll < weight(scratch, sh, c) {
+    if sh.toll < weight(sh, c, scratch) {
         return false;
     }
-    if !hangs(card(scratch, sh, c), 0, cards, groups) {
+    if !hangs(card(sh, c, scratch), 0, cards, groups) {
         return false;
     }
-    hangs(shop(scratch, sh, c), cards, groups, groups + 1)
+    hangs(shop(sh, c, scratch), cards, groups, groups + 1)
 }
 
-fn rows_formed(scratch: &[u32], sh: Shape) -> bool
-    requires { ⌜ Room sh (now scratch) ⌝ }
-    ensures { λ r. ⌜ (r ≡ true → RowsFormed sh (now (scratch .entry)) (sh .rows)) ⌝ }
+// Whether row i is formed, or group i - rows.
+fn item_formed(sh: Shape, i: usize, scratch: &[u32]) -> bool
+    requires { ⌜ (Room sh (now scratch)) × (i < sh .rows + sh .groups) ⌝ }
+    ensures { λ r. ⌜ (r ≡ true → ItemFormed sh (now (scratch .entry)) i) ⌝ }
 {
     let rows = sh.rows;
-    let mut c = 0;
-    while c < rows {
-        if !row_formed(scratch, sh, c) {
+    if i < rows {
+        return row_formed(sh, i, scratch);
+    }
+    group_formed(sh, i - rows, scratch)
+}
+
+// Whether every row and every group is formed.
+fn items_formed(sh: Shape, scratch: &[u32]) -> bool
+    requires { ⌜ Room sh (now scratch) ⌝ }
+    ensures { λ r. ⌜ (r ≡ true → ItemsFormed sh (now (scratch .entry)) (sh .rows + sh .groups)) ⌝ }
+{
+    let end = sh.rows + sh.groups;
+    let mut i = 0;
+    while i < end {
+        if !item_formed(sh, i, scratch) {
             return false;
         }
-        c += 1;
+        i += 1;
     }
     true
 }
 
 // Whether the tables hold a network that the solver takes.
-fn is_network(scratch: &[u32], sh: Shape) -> bool
+fn is_network(sh: Shape, scratch: &[u32]) -> bool
     requires { ⌜ Room sh (now scratch) ⌝ }
     ensures { λ r. ⌜ (r ≡ true → IsNetwork sh (now (scratch .entry))) ⌝ }
 {
     if sh.groups < sh.cards {
         return false;
     }
-    if !groups_formed(scratch, sh) {
-        return false;
-    }
-    rows_formed(scratch, sh)
+    items_formed(sh, scratch)
 }
 
 // Solves the tables where they hold a network, and says whether they do.
-fn solve_network(scratch: &mut [u32], sheet: &mut [u32], choice: &mut [u8], sh: Shape) -> bool
-    requires { ⌜ Lent sh (now sheet) (now choice) (now scratch) ⌝ }
-    ensures { λ r. ⌜ (r ≡ true → Solved sh (now (scratch .entry)) (now (sheet .exit)) (now (choice .exit))) ⌝ }
+fn solve_network(sh: Shape, choice: &mut [u8], sheet: &mut [u32], scratch: &mut [u32]) -> bool
+    requires { ⌜ Lent sh (now choice) (now sheet) (now scratch) ⌝ }
+    ensures { λ r. ⌜ (r ≡ true → Solved sh (now (scratch .entry)) (now (choice .exit)) (now (sheet .exit))) ⌝ }
 {
-    if !is_network(scratch, sh) {
+    if !is_network(sh, scratch) {
         return false;
     }
-    solve(scratch, sheet, choice, sh);
+    solve(sh, choice, sheet, scratch);
     true
 }
 
@@ -189,10 +171,10 @@ fn lengths_are(sh: Shape, groups: usize, rows: usize, scratch: usize) -> bool
 {
     let g = sh.groups;
     let n = sh.rows;
-    if MOST < g {
+    if 2 * MAX_GROUPS < g {
         return false;
     }
-    if MOST < n {
+    if MAX_ROWS < n {
         return false;
     }
     if groups != 2 * g {
@@ -204,9 +186,8 @@ fn lengths_are(sh: Shape, groups: usize, rows: usize, scratch: usize) -> bool
     6 * g + 5 * n + 7 <= scratch
 }
 
-// Solves a network that is given in numbers: `cards` of the groups are card groups and `top` is the largest weight. `groups` holds
-// each group's parent and then each group's limit; `rows` holds each row's card node, then each shop node, then each weight. The
-// number of rows is the choice's length, and the sheet has a cell for each group and each row.
+// Solves a network that is given in numbers, as `write_tables` has them: `cards` of the groups are card groups and `top` is the largest
+// weight. The number of rows is the choice's length, and the sheet has a cell for each group and each row.
 //
 // 0 where it was solved: the choice and the sheet are then as the solver promises of the tables that were written from the numbers.
 // 1 where the numbers are no network or a buffer has another length: the choice and the sheet are then as they were. No contract says
@@ -241,9 +222,8 @@ pub extern "C" fn probe_solve(
     if !lengths_are(sh, groups.len(), rows.len(), scratch.len()) {
         return 1;
     }
-    write_groups(groups, scratch, sh);
-    write_rows(rows, scratch, sh);
-    if solve_network(scratch, sheet, choice, sh) {
+    write_tables(groups, rows, sh, scratch);
+    if solve_network(sh, choice, sheet, scratch) {
         return 0;
     }
     1

@@ -1,38 +1,35 @@
--- Laws of writing the tables from an accepted file.
+-- Laws of writing the tables from a sound file.
 --   run-none run-more row-more   a run of no cell, and of one cell more; the same from cell 0 on
 --   puts-is                      a store, by another name of the value
+--   hosts-keeps                  a store takes no place from the groups that are to be written
 --   put-group groups-none groups-more    one group, no group, and one group more
---   claims-within                the claims section lies in the file
 --   card-named shop-named        where a row hangs, by its claim
---   card-small shop-small        the nodes where a row hangs are small
---   weight-earned weight-ordinary    the weight of a row
+--   weight-earned weight-ordinary    the weight of a claim, by its kind
+--   weighed                      the weight of a row, by its claim
 --   given-keeps                  a store changes nothing that was given
---   given-section given-cell     so there is a place for each group and for each row
+--   given-hosts given-cell       so there is a place for each group and for each row
 --   put-row rows-none rows-more  one row, no row, and one row more
 --   wrote                        both sections and the rows, one after the other, are all the tables
-use mathlib.Core.Path.{_≡_, refl, sym, ap, _∙_}
-use mathlib.Core.Logic.{_⊎_, inl, inr}
+use mathlib.Core.Path.{_≡_, refl, sym, ap, subst, _∙_}
+use mathlib.Core.Logic.{_⊎_, inl, inr, _≢_}
 use mathlib.Core.List.{List}
-use Prim.Native.Nat.{ℕ, _+_, _≤_, _<_}
+use Prim.Native.Nat.{ℕ, zero, suc, _+_, _^_, _≤_, _<_}
 use native.Mathlib.Decide.{ℕ-discrete}
 use native.Mathlib.Omega.{arith}
-use native.Mathlib.Nat.{zero-add}
+use native.Mathlib.Nat.{zero-add, pow-zero, pow-suc}
 use lib.ListN.{length}
+use Rattle.theory.specs.Bounds.{maxLimit, cellBound}
 use Rattle.theory.specs.Turn.{Puts}
 use Rattle.theory.specs.Priority as priority
-use Rattle.theory.proofs.PriorityLaws.{weight-two}
 use Rattle.claimfile.specs.declared.Layout.{Layout}
-use Rattle.claimfile.specs.declared.Reading.the-variants.{Accepted}
 use Rattle.claimfile.specs.declared.Claim.{Claim}
-use Rattle.claimfile.specs.File.{groupOf, claimOf, reading}
 use Rattle.claimfile.specs.Day as day
-use Rattle.claimfile.proofs.AcceptedLaws.{accepted-sound}
-use Rattle.claimfile.proofs.DayLaws.{parent-card, parent-shop, limit-card, limit-shop, card-node, shop-node, either-side, sound-formed}
+use Rattle.claimfile.proofs.DayLaws.{parent-on, limit-on, each-node, card-node, shop-node}
 use Rattle.residual.specs.declared.Shape.{Shape}
 use Rattle.residual.specs.Map.{spares, parents, cardNodes, shopNodes, weights}
 use Rattle.residual.specs.Map.{spareOf, parentOf, cardOf, shopOf, weightOf, Room, Put}
 use Rattle.residual.proofs.MapLaws.{keeps-none, keeps-then, put-keeps, room-keeps}
-use Rattle.tables.specs.Tables.{Given, Wrote, Run, OfGroups, OfRows, PutGroup, PutGroups, PutRow, PutRows}
+use Rattle.tables.specs.Tables.{Tabled, Given, Wrote, Run, OfGroups, OfRows, Hosts, nodeAbove, PutGroup, PutGroups, PutRow, PutRows}
 
 --------------------------------------------------------------------------------
 -- Runs of cells
@@ -66,22 +63,26 @@ puts-is f g i x y e P = rw e at P
 --------------------------------------------------------------------------------
 -- The groups of a section
 
-module _ (s : List ℕ) (start first root : ℕ) (sh : Shape) where
+module _ (s : List ℕ) (l : Layout) (side first root : ℕ) (sh : Shape) where
+  pub hosts-keeps :
+      (t u : List ℕ) → length u ≡ length t → Hosts s l side first root sh t → Hosts s l side first root sh u
+  hosts-keeps t u e H = record { sound = H .sound; room = room-keeps e (H .room); inside = H .inside; low = H .low }
+
   pub put-group :
-      (t r u : List ℕ) (g p m : ℕ) → p ≡ day.above g (groupOf s start g .parent) first root → m ≡ groupOf s start g .limit →
-      Put sh t r parents (first + g) p → Put sh r u spares (first + g) m → PutGroup s start first root sh t u g
+      (t r u : List ℕ) (g p m : ℕ) → p ≡ nodeAbove s l side first root g → m ≡ day.groupOf s l side g .limit →
+      Put sh t r parents (first + g) p → Put sh r u spares (first + g) m → PutGroup s l side first root sh t u g
   put-group t r u g p m e f A B = record {
     parents = rw (B .rest parents (λ n. omega arith)) (puts-is _ _ _ _ _ e (A .puts));
     limits = rw (← A .rest spares (λ n. omega arith)) (puts-is _ _ _ _ _ f (B .puts));
     keeps = keeps-then (put-keeps {P = OfGroups} (inr refl) A) (put-keeps {P = OfGroups} (inl refl) B);
   }
 
-  pub groups-none : (t : List ℕ) → PutGroups s start first root sh t t 0
+  pub groups-none : (t : List ℕ) → PutGroups s l side first root sh t t 0
   groups-none t = record { parents = run-none _ _ _; limits = run-none _ _ _; keeps = keeps-none }
 
   pub groups-more :
-      (t r u : List ℕ) (n : ℕ) → PutGroups s start first root sh t r n → PutGroup s start first root sh r u n →
-      PutGroups s start first root sh t u (n + 1)
+      (t r u : List ℕ) (n : ℕ) → PutGroups s l side first root sh t r n → PutGroup s l side first root sh r u n →
+      PutGroups s l side first root sh t u (n + 1)
   groups-more t r u n A B = record {
     parents = run-more _ _ _ _ _ _ (A .parents) (B .parents);
     limits = run-more _ _ _ _ _ _ (A .limits) (B .limits);
@@ -89,68 +90,50 @@ module _ (s : List ℕ) (start first root : ℕ) (sh : Shape) where
   }
 
 --------------------------------------------------------------------------------
--- The rows of an accepted file
+-- The rows of a sound file
 
-module _ (s : List ℕ) (l : Layout) (c : ℕ) (claim : Claim) (is : claim ≡ claimOf (day.claims s l) c) where
+-- the weight of a claim, by its kind
+pub weight-earned : (N kind : ℕ) → kind ≡ 1 → N + 1 ≡ priority.weightOf N (λ c. kind) 0
+unfolding priority.weightOf
+weight-earned N kind e = rw (e, pow-suc, pow-zero) (omega arith)
+
+pub weight-ordinary : (N kind : ℕ) → kind ≤ 1 → kind ≢ 1 → 1 ≡ priority.weightOf N (λ c. kind) 0
+unfolding priority.weightOf
+weight-ordinary N kind h n =
+    let e : kind ≡ 0 = omega arith in
+    rw (e, pow-zero)
+
+module _ (s : List ℕ) (l : Layout) (c : ℕ) (claim : Claim) (is : claim ≡ day.claimOf s l c) where
   pub card-named : claim .card ≡ day.cardNode s l c
   card-named = ap (λ (x : Claim). x .card) is ∙ sym (card-node s l c)
 
   pub shop-named : l .cards + claim .shop ≡ day.shopNode s l c
   shop-named = ap (λ (x : Claim). l .cards + x .shop) is ∙ sym (shop-node s l c)
 
-module _ (s : List ℕ) (l : Layout) (is : reading s ≡ Accepted l) where
-  sound : day.Sound s l
-  sound = accepted-sound s l is
-
-  pub claims-within : l .«row_at» ≤ length s
-  claims-within = omega (arith, sound .row-place, sound .size)
-
-  pub card-small : (c : ℕ) → c < l .rows → day.cardNode s l c < 65536
-  card-small c h =
-      elim (sound-formed s l sound .card-node c h) [
-        | inl n ↦ omega (arith, sound .cards-most)
-        | inr n ↦ omega (arith, sound .cards-most, sound .shops-most)
-      ]
-
-  pub shop-small : (c : ℕ) → c < l .rows → day.shopNode s l c < 65536
-  shop-small c h =
-      elim (sound-formed s l sound .shop-node c h) [
-        | inl n ↦ omega (arith, n .1, sound .cards-most, sound .shops-most)
-        | inr n ↦ omega (arith, sound .cards-most, sound .shops-most)
-      ]
-
-  abbrev weight : ℕ → ℕ
-  weight = priority.weightOf (l .rows) (day.kindOf s l)
-
-  weighs :
-      (c : ℕ) → c < l .rows →
-      ((day.kindOf s l c ≡ 0) × (weight c ≡ 1)) ⊎ ((day.kindOf s l c ≡ 1) × (weight c ≡ l .rows + 1))
-  weighs = weight-two (l .rows) (day.kindOf s l) (λ c h. omega (arith, sound .row-kinds c h))
-
-  pub weight-earned : (c : ℕ) → c < l .rows → day.kindOf s l c ≡ 1 → l .rows + 1 ≡ weight c
-  weight-earned c h e = elim (weighs c h) [ inl w ↦ absurd (omega (arith, w .0)) | inr w ↦ sym (w .1) ]
-
-  pub weight-ordinary : (c : ℕ) → c < l .rows → (day.kindOf s l c ≡ 1 → ⊥) → 1 ≡ weight c
-  weight-ordinary c h n = elim (weighs c h) [ inl w ↦ sym (w .1) | inr w ↦ absurd (n (w .0)) ]
+  pub weighed :
+      priority.weightOf (l .rows) (λ n. claim .kind) 0 ≡ priority.weightOf (l .rows) (day.kindOf s l) c
+  unfolding priority.weightOf
+  weighed = ap (λ (x : Claim). (l .rows + 1) ^ x .kind) is
 
 module _ (s : List ℕ) (l : Layout) (sh : Shape) where
   pub given-keeps : (t u : List ℕ) → length u ≡ length t → Given s l sh t → Given s l sh u
-  given-keeps t u e G = record { accepted = G .accepted; shape = G .shape; room = room-keeps e (G .room) }
+  given-keeps t u e G = record { sound = G .sound; shape = G .shape; room = room-keeps e (G .room) }
 
-  -- what writing the groups of a section asks
-  pub given-section :
-      (t u : List ℕ) (first root count : ℕ) → Given s l sh t → length u ≡ length t → first + count ≤ day.groupsOf l →
-      root ≤ sh .groups + 1 → Room sh u × (first + count ≤ sh .groups) × (root < 4294967296)
-  given-section t u first root count G e h k = (
-    room-keeps e (G .room),
-    omega (arith, G .shape .groups),
-    omega (arith, G .room .few .groups),
-  )
+  -- what writing the groups of a side asks
+  pub given-hosts :
+      (t u : List ℕ) (side first root : ℕ) → Given s l sh t → length u ≡ length t →
+      first + day.countOf l side ≤ day.groupsOf l → root ≤ sh .groups + 1 → Hosts s l side first root sh u
+  given-hosts t u side first root G e h k = record {
+    sound = G .sound;
+    room = room-keeps e (G .room);
+    inside = omega (arith, G .shape .groups);
+    low = omega (arith, G .room .few .groups);
+  }
 
   -- what storing a small number for a row asks
   pub given-cell :
-      (t u : List ℕ) (c x : ℕ) → Given s l sh t → length u ≡ length t → c < l .rows → x < 65536 →
-      Room sh u × ((c < sh .rows) × (x < 4294967296))
+      (t u : List ℕ) (c x : ℕ) → Given s l sh t → length u ≡ length t → c < l .rows → x ≤ maxLimit →
+      Room sh u × ((c < sh .rows) × (x < cellBound))
   given-cell t u c x G e h k =
       (room-keeps e (G .room), (omega (arith, G .shape .rows), omega arith))
 
@@ -194,48 +177,52 @@ module _ (s : List ℕ) (l : Layout) (sh : Shape) where
 --------------------------------------------------------------------------------
 -- All the tables
 
--- two runs, one behind the other
+-- a run of the card groups and one of the shop groups behind it; every side but 0 is the shop side
 two-runs :
-    (f g h : ℕ → ℕ) (m n : ℕ) (x y : ℕ → ℕ) → Run f g 0 m x → Run g h m n y →
-    ((i : ℕ) → i < m → h i ≡ x i) × ((j : ℕ) → j < n → h (m + j) ≡ y j)
-two-runs f g h m n x y A B = (λ i l. B .else i (inl l) ∙ ap g (sym (zero-add i)) ∙ A .here i l, B .here)
+    (l : Layout) (f g h : ℕ → ℕ) (x : ℕ → ℕ → ℕ) → ((side n : ℕ) → x (suc side) n ≡ x 1 n) →
+    Run f g 0 (l .cards) (x 0) → Run g h (l .cards) (l .shops) (x 1) → (side n : ℕ) → n < day.countOf l side →
+    h (day.firstOf l side + n) ≡ x side n
+two-runs l f g h x shop A B zero n few = B .else (0 + n) (inl (omega arith)) ∙ A .here n few
+two-runs l f g h x shop A B (suc side) n few = B .here n few ∙ sym (shop side n)
 
 not-of-rows : (k : ℕ) → k < cardNodes → OfRows k → ⊥
 not-of-rows k h (inl e) = omega arith
 not-of-rows k h (inr (inl e)) = omega arith
 not-of-rows k h (inr (inr e)) = omega arith
 
+-- the groups of one side, where its group 0 and its root are the day's
+abbrev Side : List ℕ → Layout → Shape → ℕ → List ℕ → List ℕ → Type 0
+Side s l sh side t t′ = PutGroups s l side (day.firstOf l side) (day.rootOf l side) sh t t′ (day.countOf l side)
+
 module _ (s : List ℕ) (l : Layout) (sh : Shape) (t r u w : List ℕ) where
-  pub wrote :
-      (groups : ℕ) → groups ≡ day.groupsOf l → PutGroups s (l .«card_at») 0 groups sh t r (l .cards) →
-      PutGroups s (l .«shop_at») (l .cards) (groups + 1) sh r u (l .shops) → PutRows s l sh u w (l .rows) →
-      Wrote s l sh t w
-  wrote groups e A B C =
+  day-written : Side s l sh 0 t r → Side s l sh 1 r u → PutRows s l sh u w (l .rows) → Tabled (day.instanceOf s l) sh w
+  day-written A B C =
       let same : parentOf sh w ≡ parentOf sh u = C .keeps .rest parents (not-of-rows parents (omega arith)) in
       let kept : spareOf sh w ≡ spareOf sh u = C .keeps .rest spares (not-of-rows spares (omega arith)) in
-      let up = two-runs _ _ _ _ _ _ _ (A .parents) (B .parents) in
-      let most = two-runs _ _ _ _ _ _ _ (A .limits) (B .limits) in
       record {
-        long = C .keeps .long ∙ B .keeps .long ∙ A .keeps .long;
-        tabled = record {
-          parents =
-              either-side s l (λ v. v < day.groupsOf l → parentOf sh w v ≡ day.parentOf s l v)
-              (λ v h k.
-              ap (λ p. p v) same
-              ∙ up .0 v h
-              ∙ ap (day.above v (groupOf s (l .«card_at») v .parent) 0) e
-              ∙ sym (parent-card s l v h))
-              (λ h k.
-              ap (λ p. p (l .cards + h)) same
-              ∙ up .1 h (omega arith)
-              ∙ ap (day.above h (groupOf s (l .«shop_at») h .parent) (l .cards)) (ap (λ (n : ℕ). n + 1) e)
-              ∙ sym (parent-shop s l h));
-          limits =
-              either-side s l (λ v. v < day.groupsOf l → spareOf sh w v ≡ day.limitOf s l v)
-              (λ v h k. ap (λ p. p v) kept ∙ most .0 v h ∙ sym (limit-card s l v h))
-              (λ h k. ap (λ p. p (l .cards + h)) kept ∙ most .1 h (omega arith) ∙ sym (limit-shop s l h));
-          cards = λ c h. ap (cardOf sh w) (sym (zero-add c)) ∙ C .cards .here c h;
-          shops = λ c h. ap (shopOf sh w) (sym (zero-add c)) ∙ C .shops .here c h;
-          weights = λ c h. ap (weightOf sh w) (sym (zero-add c)) ∙ C .weights .here c h;
-        };
+        parents =
+            each-node s l (λ v. parentOf sh w v ≡ day.parentOf s l v)
+            (λ side g h.
+            ap (λ p. p (day.firstOf l side + g)) same
+            ∙ two-runs l _ _ _ (day.upOf s l) (λ k n. refl) (A .parents) (B .parents) side g h
+            ∙ sym (parent-on s l side g h));
+        limits =
+            each-node s l (λ v. spareOf sh w v ≡ day.limitOf s l v)
+            (λ side g h.
+            ap (λ p. p (day.firstOf l side + g)) kept
+            ∙ two-runs l _ _ _ (λ k n. day.groupOf s l k n .limit) (λ k n. refl) (A .limits) (B .limits) side g h
+            ∙ sym (limit-on s l side g h));
+        cards = λ c h. ap (cardOf sh w) (sym (zero-add c)) ∙ C .cards .here c h;
+        shops = λ c h. ap (shopOf sh w) (sym (zero-add c)) ∙ C .shops .here c h;
+        weights = λ c h. ap (weightOf sh w) (sym (zero-add c)) ∙ C .weights .here c h;
       }
+
+  pub wrote :
+      (groups : ℕ) → groups ≡ day.groupsOf l → PutGroups s l 0 0 groups sh t r (l .cards) →
+      PutGroups s l 1 (l .cards) (groups + 1) sh r u (l .shops) → PutRows s l sh u w (l .rows) → Wrote s l sh t w
+  wrote groups e A B C = record {
+    long = C .keeps .long ∙ B .keeps .long ∙ A .keeps .long;
+    tabled =
+        day-written (subst (λ n. PutGroups s l 0 0 n sh t r (l .cards)) e A)
+        (subst (λ n. PutGroups s l 1 (l .cards) (n + 1) sh r u (l .shops)) e B) C;
+  }

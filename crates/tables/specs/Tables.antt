@@ -1,27 +1,28 @@
 -- The tables that the solver works on, written from an accepted file.
 --   shapeOf l              the shape of the day: its sizes, no row barred, the largest weight as the toll, and 0 as the label of fresh
 --                          nodes
---   Shaped l sh            the shape has the day's sizes
---   Tabled s l sh t        the scratch t holds the day that the file s with layout l is: each node's parent and limit, the two nodes
---                          of each row and its weight
---   Given s l sh t         what writing the tables asks: an accepted file, its sizes, and a scratch slice that is long enough
+--   Shaped d sh            the shape has the network's sizes
+--   Tabled i sh t          the scratch t holds the day i: each node's parent and limit, the two nodes of each row and its weight
+--   Given s l sh t         what writing the tables asks: a sound file, its sizes, and a scratch slice that is long enough
 --   Wrote s l sh t t′      what it leaves: the tables in a scratch slice of the same length
 -- How the tables are written, table by table:
 --   Run f g first count x  g is f but for x 0, x 1, .. in the count places from first on
 --   OfGroups, OfRows       the tables that hold what a group's record says, and what a row's says
---   PutGroup, PutGroups    t′ is t but for one group of a section, or for its first groups. The section's records start at `start`,
---                          its group 0 is node `first` and `root` stands over its tops
+--   Hosts s l side first root sh t     what writing the groups of a side asks: there is a place for each of them, where group 0 is node
+--                          `first` and `root` stands over the tops
+--   nodeAbove s l side first root g     the node above group g
+--   PutGroup, PutGroups    t′ is t but for one group of the side, or for its first groups
 --   PutRow, PutRows        t′ is t but for row c, or for the first rows
 use mathlib.Core.Path.{_≡_}
 use mathlib.Core.Logic.{_⊎_}
 use mathlib.Core.List.{List}
 use Prim.Native.Nat.{ℕ, _+_, _≤_, _<_}
 use lib.ListN.{length}
+use Rattle.theory.specs.Bounds.{cellBound}
 use Rattle.theory.specs.Turn.{Puts}
+use Rattle.theory.specs.Network.{Network, Instance}
 use Rattle.theory.specs.Priority as priority
 use Rattle.claimfile.specs.declared.Layout.{Layout}
-use Rattle.claimfile.specs.declared.Reading.the-variants.{Accepted}
-use Rattle.claimfile.specs.File.{groupOf, reading}
 use Rattle.claimfile.specs.Day as day
 use Rattle.residual.specs.declared.Shape.{Shape}
 use Rattle.residual.specs.Map.{spares, parents, cardNodes, shopNodes, weights}
@@ -30,26 +31,26 @@ use Rattle.residual.specs.Map.{spareOf, parentOf, cardOf, shopOf, weightOf, Roo
 abbrev pub shapeOf : Layout → Shape
 shapeOf l = record { cards = l .cards; groups = day.groupsOf l; rows = l .rows; free = 0; toll = l .rows + 1; fresh = 0 }
 
-pub record Shaped (l : Layout) (sh : Shape) : Type 0 where
-  pub cards : sh .cards ≡ l .cards
-  pub groups : sh .groups ≡ day.groupsOf l
-  pub rows : sh .rows ≡ l .rows
+pub record Shaped (d : Network) (sh : Shape) : Type 0 where
+  pub cards : sh .cards ≡ d .cards
+  pub groups : sh .groups ≡ d .groups
+  pub rows : sh .rows ≡ d .rows
 
-pub record Tabled (s : List ℕ) (l : Layout) (sh : Shape) (t : List ℕ) : Type 0 where
-  pub parents : (v : ℕ) → v < day.groupsOf l → parentOf sh t v ≡ day.parentOf s l v
-  pub limits : (v : ℕ) → v < day.groupsOf l → spareOf sh t v ≡ day.limitOf s l v
-  pub cards : (c : ℕ) → c < l .rows → cardOf sh t c ≡ day.cardNode s l c
-  pub shops : (c : ℕ) → c < l .rows → shopOf sh t c ≡ day.shopNode s l c
-  pub weights : (c : ℕ) → c < l .rows → weightOf sh t c ≡ priority.weightOf (l .rows) (day.kindOf s l) c
+pub record Tabled (i : Instance) (sh : Shape) (t : List ℕ) : Type 0 where
+  pub parents : (v : ℕ) → v < i .net .groups → parentOf sh t v ≡ i .net .parent v
+  pub limits : (v : ℕ) → v < i .net .groups → spareOf sh t v ≡ i .limit v
+  pub cards : (c : ℕ) → c < i .net .rows → cardOf sh t c ≡ i .net .card c
+  pub shops : (c : ℕ) → c < i .net .rows → shopOf sh t c ≡ i .net .shop c
+  pub weights : (c : ℕ) → c < i .net .rows → weightOf sh t c ≡ priority.weightOf (i .net .rows) (i .kind) c
 
 pub record Given (s : List ℕ) (l : Layout) (sh : Shape) (t : List ℕ) : Type 0 where
-  pub accepted : reading s ≡ Accepted l
-  pub shape : Shaped l sh
+  pub sound : day.Sound s l
+  pub shape : Shaped (day.networkOf s l) sh
   pub room : Room sh t
 
 pub record Wrote (s : List ℕ) (l : Layout) (sh : Shape) (t t′ : List ℕ) : Type 0 where
   pub long : length t′ ≡ length t
-  pub tabled : Tabled s l sh t′
+  pub tabled : Tabled (day.instanceOf s l) sh t′
 
 --------------------------------------------------------------------------------
 -- Table by table
@@ -64,16 +65,26 @@ OfGroups k = (k ≡ spares) ⊎ (k ≡ parents)
 abbrev pub OfRows : ℕ → Type 0
 OfRows k = (k ≡ cardNodes) ⊎ (k ≡ shopNodes) ⊎ (k ≡ weights)
 
-module _ (s : List ℕ) (start first root : ℕ) (sh : Shape) (t t′ : List ℕ) where
-  pub record PutGroup (g : ℕ) : Type 0 where
-    pub parents : Puts (parentOf sh t) (parentOf sh t′) (first + g) (day.above g (groupOf s start g .parent) first root)
-    pub limits : Puts (spareOf sh t) (spareOf sh t′) (first + g) (groupOf s start g .limit)
-    pub keeps : Keeps sh OfGroups t t′
+module _ (s : List ℕ) (l : Layout) (side first root : ℕ) where
+  abbrev pub nodeAbove : ℕ → ℕ
+  nodeAbove g = day.above g (day.groupOf s l side g .parent) first root
 
-  pub record PutGroups (count : ℕ) : Type 0 where
-    pub parents : Run (parentOf sh t) (parentOf sh t′) first count (λ g. day.above g (groupOf s start g .parent) first root)
-    pub limits : Run (spareOf sh t) (spareOf sh t′) first count (λ g. groupOf s start g .limit)
-    pub keeps : Keeps sh OfGroups t t′
+  pub record Hosts (sh : Shape) (t : List ℕ) : Type 0 where
+    pub sound : day.Sound s l
+    pub room : Room sh t
+    pub inside : first + day.countOf l side ≤ sh .groups
+    pub low : root < cellBound
+
+  module _ (sh : Shape) (t t′ : List ℕ) where
+    pub record PutGroup (g : ℕ) : Type 0 where
+      pub parents : Puts (parentOf sh t) (parentOf sh t′) (first + g) (nodeAbove g)
+      pub limits : Puts (spareOf sh t) (spareOf sh t′) (first + g) (day.groupOf s l side g .limit)
+      pub keeps : Keeps sh OfGroups t t′
+
+    pub record PutGroups (count : ℕ) : Type 0 where
+      pub parents : Run (parentOf sh t) (parentOf sh t′) first count nodeAbove
+      pub limits : Run (spareOf sh t) (spareOf sh t′) first count (λ g. day.groupOf s l side g .limit)
+      pub keeps : Keeps sh OfGroups t t′
 
 module _ (s : List ℕ) (l : Layout) (sh : Shape) (t t′ : List ℕ) where
   pub record PutRow (c : ℕ) : Type 0 where

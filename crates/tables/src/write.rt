@@ -1,16 +1,15 @@
-// The solver's tables, written from an accepted file into the lent scratch.
+// The solver's tables, written from an accepted file into the lent scratch, and the shape that says their sizes.
 ghost use mathlib.Core.Path.{_≡_};
-ghost use Prim.Native.Nat.{_+_, _≤_, _<_};
+ghost use Prim.Native.Nat.{_+_, _*_, _≤_, _<_};
+ghost use Rattle.theory.specs.Bounds.{maxGroups, maxRows, cellBound};
 ghost use Rattle.theory.specs.Priority as priority;
-ghost use Rattle.claimfile.specs.declared.Reading.the-variants.{Accepted};
-ghost use Rattle.claimfile.specs.File.{claimOf, reading};
 ghost use Rattle.claimfile.specs.Day as day;
-ghost use Rattle.residual.specs.Map.{most, Room};
-ghost use Rattle.tables.specs.Tables.{Given, Wrote, PutGroup, PutGroups, PutRow, PutRows};
+ghost use Rattle.tables.specs.Tables.{shapeOf, Given, Wrote, Hosts, PutGroup, PutGroups, PutRow, PutRows};
 use claimfile::Claim;
 use claimfile::Layout;
-use claimfile::claim_at;
-use claimfile::group_at;
+use claimfile::claim_of;
+use claimfile::group_of;
+use claimfile::groups_on;
 use residual::Shape;
 use residual::map::set_card;
 use residual::map::set_parent;
@@ -18,12 +17,33 @@ use residual::map::set_shop;
 use residual::map::set_spare;
 use residual::map::set_weight;
 
+const CARD_SIDE: usize = 0;
+
+const SHOP_SIDE: usize = 1;
+
 const EARNED: u8 = 1;
+
+// The shape of a day: its sizes, and the largest weight as the toll.
+pub fn shape_of(layout: Layout) -> Shape
+    requires { ⌜ (layout .cards ≤ maxGroups) × (layout .shops ≤ maxGroups) × (layout .rows ≤ maxRows) ⌝ }
+    ensures { λ r. ⌜ r ≡ shapeOf layout ⌝ }
+{
+    let cards = layout.cards;
+    let rows = layout.rows;
+    Shape {
+        cards,
+        groups: cards + layout.shops,
+        rows,
+        free: 0,
+        toll: rows + 1,
+        fresh: 0,
+    }
+}
 
 // The node above group `own` of a section: its parent, where that is a smaller group, else the root.
 fn above(own: usize, parent: usize, first: usize, root: usize) -> usize
-    requires { ⌜ (first + own ≤ most) × (root < 4294967296) ⌝ }
-    ensures { λ r. ⌜ (r ≡ day.above own parent first root) × (r < 4294967296) ⌝ }
+    requires { ⌜ (first + own ≤ 2 * maxGroups) × (root < cellBound) ⌝ }
+    ensures { λ r. ⌜ (r ≡ day.above own parent first root) × (r < cellBound) ⌝ }
 {
     if parent < own {
         return first + parent;
@@ -31,52 +51,46 @@ fn above(own: usize, parent: usize, first: usize, root: usize) -> usize
     root
 }
 
-// The parent and the limit of group `g` of a section whose records start at `start`: its node is `first + g`.
+// The parent and the limit of group `g` of a side, whose group 0 is node `first`; `root` stands over its tops.
 fn write_group(
     file: &[u8],
-    scratch: &mut [u32],
+    layout: Layout,
     sh: Shape,
-    start: usize,
+    side: usize,
     first: usize,
     root: usize,
     g: usize,
+    scratch: &mut [u32],
 )
-    requires { ⌜ (Room sh (now scratch)) × (first + g < sh .groups) × (root < 4294967296) ⌝ }
-    ensures { λ _. ⌜ PutGroup (now (file .entry)) start first root sh (now (scratch .entry)) (now (scratch .exit)) g ⌝ }
+    requires { ⌜ (Hosts (now file) layout side first root sh (now scratch)) × (g < day.countOf layout side) ⌝ }
+    ensures { λ _. ⌜ PutGroup (now (file .entry)) layout side first root sh (now (scratch .entry)) (now (scratch .exit)) g ⌝ }
 {
-    let group = group_at(file, start, g);
+    let group = group_of(file, layout, side, g);
     let node = first + g;
-    set_parent(scratch, sh, node, above(g, group.parent, first, root));
-    set_spare(scratch, sh, node, group.limit);
+    let up = above(g, group.parent, first, root);
+    set_parent(sh, node, up, scratch);
+    set_spare(sh, node, group.limit, scratch);
 }
 
-// The parents and limits of the first `count` groups of a section.
+// The parents and limits of all groups of a side.
 fn write_groups(
     file: &[u8],
-    scratch: &mut [u32],
+    layout: Layout,
     sh: Shape,
-    start: usize,
+    side: usize,
     first: usize,
     root: usize,
-    count: usize,
+    scratch: &mut [u32],
 )
-    requires { ⌜ (Room sh (now scratch)) × (first + count ≤ sh .groups) × (root < 4294967296) ⌝ }
-    ensures { λ _. ⌜ PutGroups (now (file .entry)) start first root sh (now (scratch .entry)) (now (scratch .exit)) count ⌝ }
+    requires { ⌜ Hosts (now file) layout side first root sh (now scratch) ⌝ }
+    ensures { λ _. ⌜ PutGroups (now (file .entry)) layout side first root sh (now (scratch .entry)) (now (scratch .exit)) (day.countOf layout side) ⌝ }
 {
+    let count = groups_on(layout, side);
     let mut g = 0;
     while g < count {
-        write_group(file, scratch, sh, start, first, root, g);
+        write_group(file, layout, sh, side, first, root, g, scratch);
         g += 1;
     }
-}
-
-// The claim of row `c`.
-fn claim_of(file: &[u8], layout: Layout, c: usize) -> Claim
-    requires { ⌜ reading (now file) ≡ Accepted layout ⌝ }
-    ensures { λ r. ⌜ r ≡ claimOf (day.claims (now (file .entry)) layout) c ⌝ }
-{
-    let at = layout.row_at;
-    claim_at(&file[at..], c)
 }
 
 // Where a claim hangs on the card side: the group that it names.
@@ -88,16 +102,16 @@ fn card_node(claim: Claim) -> usize
 
 // Where a claim hangs on the shop side.
 fn shop_node(layout: Layout, claim: Claim) -> usize
-    requires { ⌜ layout .cards + claim .shop < 65536 ⌝ }
+    requires { ⌜ (layout .cards ≤ maxGroups) × (claim .shop < layout .shops) × (layout .shops ≤ maxGroups) ⌝ }
     ensures { λ r. ⌜ r ≡ layout .cards + claim .shop ⌝ }
 {
     layout.cards + claim.shop
 }
 
-// The weight of row `c`, which is the claim: one earned row outweighs all ordinary ones.
-fn row_weight(file: &[u8], layout: Layout, c: usize, claim: Claim) -> usize
-    requires { ⌜ (reading (now file) ≡ Accepted layout) × ((c < layout .rows) × (claim ≡ claimOf (day.claims (now file) layout) c)) ⌝ }
-    ensures { λ r. ⌜ (r ≡ priority.weightOf (layout .rows) (day.kindOf (now (file .entry)) layout) c) × (r < 65536) ⌝ }
+// The weight of a claim: one earned claim outweighs all ordinary ones.
+fn weight_of(layout: Layout, claim: Claim) -> usize
+    requires { ⌜ (layout .rows ≤ maxRows) × (claim .kind ≤ 1) ⌝ }
+    ensures { λ r. ⌜ (r ≡ priority.weightOf (layout .rows) (λ c. claim .kind) 0) × (r ≤ maxRows + 1) ⌝ }
 {
     if claim.kind == EARNED {
         return layout.rows + 1;
@@ -106,46 +120,37 @@ fn row_weight(file: &[u8], layout: Layout, c: usize, claim: Claim) -> usize
 }
 
 // The nodes and the weight of row `c`.
-fn write_row(file: &[u8], layout: Layout, scratch: &mut [u32], sh: Shape, c: usize)
+fn write_row(file: &[u8], layout: Layout, sh: Shape, c: usize, scratch: &mut [u32])
     requires { ⌜ (Given (now file) layout sh (now scratch)) × (c < layout .rows) ⌝ }
     ensures { λ _. ⌜ PutRow (now (file .entry)) layout sh (now (scratch .entry)) (now (scratch .exit)) c ⌝ }
 {
     let claim = claim_of(file, layout, c);
-    let weight = row_weight(file, layout, c, claim);
-    set_card(scratch, sh, c, card_node(claim));
-    set_shop(scratch, sh, c, shop_node(layout, claim));
-    set_weight(scratch, sh, c, weight);
+    set_card(sh, c, card_node(claim), scratch);
+    set_shop(sh, c, shop_node(layout, claim), scratch);
+    set_weight(sh, c, weight_of(layout, claim), scratch);
 }
 
 // The nodes and the weight of every row.
-fn write_rows(file: &[u8], layout: Layout, scratch: &mut [u32], sh: Shape)
+fn write_rows(file: &[u8], layout: Layout, sh: Shape, scratch: &mut [u32])
     requires { ⌜ Given (now file) layout sh (now scratch) ⌝ }
     ensures { λ _. ⌜ PutRows (now (file .entry)) layout sh (now (scratch .entry)) (now (scratch .exit)) (layout .rows) ⌝ }
 {
     let rows = layout.rows;
     let mut c = 0;
     while c < rows {
-        write_row(file, layout, scratch, sh, c);
+        write_row(file, layout, sh, c, scratch);
         c += 1;
     }
 }
 
 // Writes every table of the day into the scratch slice.
-pub fn write_tables(file: &[u8], layout: Layout, scratch: &mut [u32], sh: Shape)
+pub fn write_tables(file: &[u8], layout: Layout, sh: Shape, scratch: &mut [u32])
     requires { ⌜ Given (now file) layout sh (now scratch) ⌝ }
     ensures { λ _. ⌜ Wrote (now (file .entry)) layout sh (now (scratch .entry)) (now (scratch .exit)) ⌝ }
 {
     let cards = layout.cards;
     let groups = sh.groups;
-    write_groups(file, scratch, sh, layout.card_at, 0, groups, cards);
-    write_groups(
-        file,
-        scratch,
-        sh,
-        layout.shop_at,
-        cards,
-        groups + 1,
-        layout.shops,
-    );
-    write_rows(file, layout, scratch, sh);
+    write_groups(file, layout, sh, CARD_SIDE, 0, groups, scratch);
+    write_groups(file, layout, sh, SHOP_SIDE, cards, groups + 1, scratch);
+    write_rows(file, layout, sh, scratch);
 }

@@ -1,4 +1,5 @@
 -- The definitions of the theory: what a reader must believe. The laws stand in proofs/.
+pub mod Bounds
 pub mod Sum
 pub mod Forest
 pub mod Incidence

@@ -8,8 +8,8 @@ use closing::settle;
 use limits::OneMore;
 use limits::Ranked;
 use limits::fits_and_rank;
-use limits::number;
 use limits::one_more;
+use refusal::number;
 
 // The refusal's number and zeros where the call is turned away; else 0, 1 where the selection fits and 0 where not, and its rank.
 #[repr(C)]
@@ -90,14 +90,8 @@ pub extern "C" fn claims_settle(
             kept: totals.kept as u64,
             total: totals.total as u64,
         },
-        Settled::File(why) => SettleAnswer {
-            refusal: claimfile::number(why),
-            earned: 0,
-            kept: 0,
-            total: 0,
-        },
-        Settled::Short => SettleAnswer {
-            refusal: 8,
+        Settled::Refused(why) => SettleAnswer {
+            refusal: number(why),
             earned: 0,
             kept: 0,
             total: 0,

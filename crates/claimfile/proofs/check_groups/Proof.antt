@@ -1,12 +1,12 @@
 -- `check_groups` meets its contract. The loop keeps that the first fault of the records left is that of all.
-use mathlib.Core.Path.{_≡_, sym, _∙_}
-use mathlib.Core.Logic.{⊎-elim}
+use mathlib.Core.Path.{_≡_, sym, _∙_, ap}
 use Prim.Native.Nat.{_-_, _≤_}
 use native.Mathlib.Omega.{arith}
 use native.Mathlib.Nat.{sub-zero}
 use borrow.Author.Needs.{needs}
-use Rattle.claimfile.specs.File.{groupsFrom}
-use Rattle.claimfile.proofs.FileLaws.{no-group, group-cut, bad-parent, next-group, parent-small, parent-top}
+use Rattle.claimfile.specs.File.{groupAt, groupFault, groupsFrom}
+use Rattle.claimfile.specs.declared.Group.{Group}
+use Rattle.claimfile.proofs.FileLaws.{no-record, record-cut, record-fault, next-record}
 use Rattle.claimfile.proofs.check_groups.Statement.{statement}
 use Rattle.claimfile.proofs.check_groups.Tie as tie
 
@@ -15,6 +15,17 @@ Inv-loop file start count own₀ own = (own ≤ count) × (groupsFrom file start
 
 abbrev μ-loop : tie.MeasureT-loop
 μ-loop file start count own₀ own = count - own
+
+-- what the check of the present record finds is the fault of its fields
+judged :
+    (c : tie.After-check-group Inv-loop μ-loop) →
+    let at = c .before .before .before .before in
+    let a = at .before .before .args in
+    c .check-group .result ≡ groupFault (at .loop .own) (groupAt (a .file .now) (a .start) (at .loop .own))
+judged c =
+    let at = c .before .before .before .before in
+    let a = at .before .before .args in
+    c .check-group .ensures ∙ ap (λ (y : Group). groupFault (at .loop .own) y) (c .before .group-at .ensures .0)
 
 loop-holds : tie.Need-loop-holds Inv-loop μ-loop
 loop-holds c = (search needs, simp sub-zero)
@@ -32,25 +43,28 @@ returns : tie.Need-returns Inv-loop μ-loop
 returns c =
     let at = c .before .before in
     let a = at .before .before .args in
-    sym (group-cut (a .file .now) (a .start) (a .count) (at .loop .own) (omega arith) (omega arith)) ∙ at .loop .inv .1
+    sym (record-cut _ _ _ _ (a .count) (at .loop .own) (omega arith) (omega arith)) ∙ at .loop .inv .1
 
-mul-u16-at : tie.Need-mul-u16-at Inv-loop μ-loop
-mul-u16-at c = omega arith
+group-at-requires : tie.Need-group-at-requires Inv-loop μ-loop
+group-at-requires c κs = omega arith
 
-add-u16-at : tie.Need-add-u16-at Inv-loop μ-loop
-add-u16-at c = omega arith
+check-group-requires : tie.Need-check-group-requires Inv-loop μ-loop
+check-group-requires c κs = search needs
 
-u16-at-requires : tie.Need-u16-at-requires Inv-loop μ-loop
-u16-at-requires c κs = search needs
+enum-told : tie.Need-enum-told Inv-loop μ-loop
+enum-told c = search needs
+
+enum-told-2 : tie.Need-enum-told-2 Inv-loop μ-loop
+enum-told-2 c = search needs
 
 returns-2 : tie.Need-returns-2 Inv-loop μ-loop
 returns-2 c =
     let called = c .before .before in
-    let at = called .before .before .before in
+    let at = called .before .before .before .before in
     let a = at .before .before .args in
-    let e = called .u16-at .ensures .0 in
-    sym (bad-parent (a .file .now) (a .start) (a .count) (at .loop .own) (omega arith) (omega arith) (omega (arith, e))
-    (λ h. c .if3 .taken (e ∙ h)))
+    let told = c .enum-told2 .given .1 in
+    told
+    ∙ sym (record-fault _ _ _ _ (a .count) (at .loop .own) (omega arith) (omega arith) _ (sym (judged called) ∙ told))
     ∙ at .loop .inv .1
 
 add-own : tie.Need-add-own Inv-loop μ-loop
@@ -61,24 +75,19 @@ loop-less c = omega arith
 
 loop-again : tie.Need-loop-again Inv-loop μ-loop
 loop-again c =
-    let called = c .before in
-    let at = called .before .before .before in
+    let called = c .before .before in
+    let at = called .before .before .before .before in
     let a = at .before .before .args in
-    let e = called .u16-at .ensures .0 in
-    let fits =
-    ⊎-elim (λ w. parent-top (at .loop .own) (called .u16-at .result) (omega arith) (w .1 .left))
-    (λ w. parent-small (at .loop .own) (called .u16-at .result) (omega arith)) (c .if2 .came)
-    in (
+    let told = c .enum-told .given .1 in (
       omega arith,
-      sym (next-group (a .file .now) (a .start) (a .count) (at .loop .own) (omega arith) (omega arith) (rw e at fits))
-          ∙ at .loop .inv .1,
+      sym (next-record _ _ _ _ (a .count) (at .loop .own) (omega arith) (omega arith) (sym (judged called) ∙ told)) ∙ at .loop .inv .1,
     )
 
 returns-3 : tie.Need-returns-3 Inv-loop μ-loop
 returns-3 c =
     let at = c .before in
     let a = at .before .before .args in
-    sym (no-group (a .file .now) (a .start) (a .count) (at .loop .own) (omega arith)) ∙ at .loop .inv .1
+    sym (no-record _ _ _ _ (a .count) (at .loop .own) (omega arith)) ∙ at .loop .inv .1
 
 pub check-groups-spec : {M : Type 1} → statement M
 check-groups-spec =
@@ -91,9 +100,10 @@ check-groups-spec =
     mul-if1
     add-if1
     returns
-    mul-u16-at
-    add-u16-at
-    u16-at-requires
+    group-at-requires
+    check-group-requires
+    enum-told
+    enum-told-2
     returns-2
     add-own
     loop-less

@@ -4,10 +4,9 @@ use Prim.Native.Nat.{_-_, _≤_}
 use native.Mathlib.Omega.{arith}
 use native.Mathlib.Nat.{sub-zero}
 use borrow.Author.Needs.{needs}
-use Rattle.claimfile.specs.File.{claimOf, claimFault, rowsFrom}
-use Rattle.claimfile.specs.declared.Checked.{Checked}
+use Rattle.claimfile.specs.File.{claimAt, claimFault, rowsFrom}
 use Rattle.claimfile.specs.declared.Claim.{Claim}
-use Rattle.claimfile.proofs.FileLaws.{no-row, row-cut, row-fault, next-row}
+use Rattle.claimfile.proofs.FileLaws.{no-record, record-cut, record-fault, next-record}
 use Rattle.claimfile.proofs.check_rows.Statement.{statement}
 use Rattle.claimfile.proofs.check_rows.Tie as tie
 
@@ -16,6 +15,17 @@ Inv-loop rows count cards shops c₀ c = (c ≤ count) × (rowsFrom rows cards s
 
 abbrev μ-loop : tie.MeasureT-loop
 μ-loop rows count cards shops c₀ c = count - c
+
+-- what the check of the present record finds is the fault of its fields
+judged :
+    (c : tie.After-check-claim Inv-loop μ-loop) →
+    let at = c .before .before .before .before in
+    let a = at .before .before .args in
+    c .check-claim .result ≡ claimFault (claimAt (a .rows .now) (at .loop .c)) (a .cards) (a .shops)
+judged c =
+    let at = c .before .before .before .before in
+    let a = at .before .before .args in
+    c .check-claim .ensures ∙ ap (λ (y : Claim). claimFault y (a .cards) (a .shops)) (c .before .claim-at .ensures)
 
 loop-holds : tie.Need-loop-holds Inv-loop μ-loop
 loop-holds c = (search needs, simp sub-zero)
@@ -26,27 +36,14 @@ mul-if1 c = omega arith
 add-if1 : tie.Need-add-if1 Inv-loop μ-loop
 add-if1 c = omega arith
 
--- the fault of the present record's fields
-judged :
-    (c : tie.After-check-claim Inv-loop μ-loop) (x : Checked) → c .check-claim .result ≡ x →
-    claimFault
-    (claimOf (c .before .before .before .before .before .before .args .rows .now) (c .before .before .before .before .loop .c))
-    (c .before .before .before .before .before .before .args .cards)
-    (c .before .before .before .before .before .before .args .shops)
-    ≡ x
-judged c x told =
-    let a = c .before .before .before .before .before .before .args in
-    sym (ap (λ (y : Claim). claimFault y (a .cards) (a .shops)) (c .before .claim-at .ensures .0))
-    ∙ sym (c .check-claim .ensures) ∙ told
-
 returns : tie.Need-returns Inv-loop μ-loop
 returns c =
     let at = c .before .before in
     let a = at .before .before .args in
-    sym (row-cut (a .rows .now) (a .cards) (a .shops) (a .count) (at .loop .c) (omega arith) (omega arith)) ∙ at .loop .inv .1
+    sym (record-cut _ _ _ _ (a .count) (at .loop .c) (omega arith) (omega arith)) ∙ at .loop .inv .1
 
 claim-at-requires : tie.Need-claim-at-requires Inv-loop μ-loop
-claim-at-requires c κs = search needs
+claim-at-requires c κs = omega arith
 
 check-claim-requires : tie.Need-check-claim-requires Inv-loop μ-loop
 check-claim-requires c κs = search needs
@@ -64,8 +61,7 @@ returns-2 c =
     let a = at .before .before .args in
     let told = c .enum-told2 .given .1 in
     told
-    ∙ sym (row-fault (a .rows .now) (a .cards) (a .shops) (a .count) (at .loop .c) (omega arith) (omega arith) _
-    (judged called _ told))
+    ∙ sym (record-fault _ _ _ _ (a .count) (at .loop .c) (omega arith) (omega arith) _ (sym (judged called) ∙ told))
     ∙ at .loop .inv .1
 
 add-c : tie.Need-add-c Inv-loop μ-loop
@@ -78,18 +74,17 @@ loop-again : tie.Need-loop-again Inv-loop μ-loop
 loop-again c =
     let called = c .before .before in
     let at = called .before .before .before .before in
-    let a = at .before .before .args in (
+    let a = at .before .before .args in
+    let told = c .enum-told .given .1 in (
       omega arith,
-      sym (next-row (a .rows .now) (a .cards) (a .shops) (a .count) (at .loop .c) (omega arith) (omega arith)
-          (judged called _ (c .enum-told .given .1)))
-          ∙ at .loop .inv .1,
+      sym (next-record _ _ _ _ (a .count) (at .loop .c) (omega arith) (omega arith) (sym (judged called) ∙ told)) ∙ at .loop .inv .1,
     )
 
 returns-3 : tie.Need-returns-3 Inv-loop μ-loop
 returns-3 c =
     let at = c .before in
     let a = at .before .before .args in
-    sym (no-row (a .rows .now) (a .cards) (a .shops) (a .count) (at .loop .c) (omega arith)) ∙ at .loop .inv .1
+    sym (no-record _ _ _ _ (a .count) (at .loop .c) (omega arith)) ∙ at .loop .inv .1
 
 pub check-rows-spec : {M : Type 1} → statement M
 check-rows-spec =

@@ -1,92 +1,104 @@
--- `read_claims` meets its contract.
-use mathlib.Core.Path.{_≡_, sym, _∙_, ap}
+-- `read_claims` meets its contract: a count without a fault is whole and small, so its records can be checked.
+use mathlib.Core.Path.{sym, _∙_, ap}
 use mathlib.Core.List.{List}
-use Prim.Native.Nat.{ℕ, _+_}
+use Prim.Native.Nat.{ℕ, _+_, _≤_}
 use native.Mathlib.Omega.{arith}
-use Rattle.claimfile.specs.File.{rowsFrom, rowsRead, claimsAt}
-use Rattle.claimfile.specs.declared.Checked.{Checked}
-use Rattle.claimfile.proofs.FileLaws.{tail-is, claims-cut, claims-large, claims-is}
+use lib.ListN.{length, drop}
 use borrow.Author.Needs.{needs}
+use Rattle.theory.specs.Bounds.{maxRows}
+use Rattle.claimfile.specs.File.{word, rowsFrom, sectionOf, claimsAt}
+use Rattle.claimfile.specs.declared.Refusal.the-variants.{ClaimCount}
+use Rattle.claimfile.specs.declared.Checked.{Checked}
+use Rattle.claimfile.specs.declared.Section.{Section}
+use Rattle.claimfile.proofs.FileLaws.{tail-is, count-fine, section-fault, section-fits}
 use Rattle.claimfile.proofs.read_claims.Statement.{statement}
 use Rattle.claimfile.proofs.read_claims.Tie as tie
 
--- what is known once the records are checked
-section :
-    (c : tie.After-check-rows) (x : Checked) → c .check-rows .result ≡ x →
-    claimsAt (c .before .before .before .before .before .before .before .args .file .now)
-    (c .before .before .before .before .before .before .before .args .at)
-    (c .before .before .before .before .before .before .before .args .cards)
-    (c .before .before .before .before .before .before .before .args .shops)
-    ≡ rowsRead x (c .before .before .before .u16-at .result)
-    (c .before .before .before .before .before .before .before .args .at + 2)
-section c x told =
-    let counted = c .before .before .before .u16-at in
-    let a = c .before .before .before .before .before .before .before .args in
-    let rows = ap (λ (r : List ℕ). rowsFrom r (a .cards) (a .shops) 0 (counted .result)) (tail-is (a .at + 2) (a .file .now)) in
-    claims-is (a .file .now) (a .at) (omega arith) (a .cards) (a .shops) (counted .result) x (counted .ensures .0)
-    (omega arith) (sym told ∙ c .check-rows .ensures ∙ rows)
+-- what is known of the count once it has no fault
+whole :
+    (c : tie.After-enum-told) →
+    let a = c .before .before .before .before .args in
+    (a .at + 2 ≤ length (a .file .now)) × (word (a .file .now) (a .at) ≤ maxRows)
+whole c =
+    let counted = c .before .before in
+    let a = counted .before .before .args in
+    let fine = count-fine (a .file .now) (a .at) _ _ (sym (counted .check-count .ensures) ∙ c .enum-told .given .1) in
+    (fine .0, omega arith)
+
+check-count-requires : tie.Need-check-count-requires
+check-count-requires c κs = search needs
+
+enum-told : tie.Need-enum-told
+enum-told c = search needs
+
+enum-told-2 : tie.Need-enum-told-2
+enum-told-2 c = search needs
+
+section-of-requires : tie.Need-section-of-requires
+section-of-requires c κs = search needs
 
 returns : tie.Need-returns
-returns c = sym (claims-cut _ _ _ _ (omega arith))
-
-returns-2 : tie.Need-returns-2
-returns-2 c = sym (claims-cut _ _ _ _ (omega arith))
+unfolding claimsAt
+returns c =
+    let told = c .before .enum-told2 .given .1 in
+    let counted = c .before .before .before in
+    let a = counted .before .before .args in
+    c .section-of .ensures ∙ ap (λ (x : Checked). sectionOf x 0 0 5) told
+    ∙ sym (section-fault (a .file .now) (a .at) maxRows ClaimCount _ _ _ (sym (counted .check-count .ensures) ∙ told))
 
 u16-at-requires : tie.Need-u16-at-requires
-u16-at-requires c κs = search needs
-
-returns-3 : tie.Need-returns-3
-returns-3 c = sym (claims-large _ _ (omega arith) _ _ (omega (arith, c .before .u16-at .ensures .0)))
+u16-at-requires c κs = whole c .0
 
 add-start : tie.Need-add-start
-add-start c = search needs
+add-start c = omega (arith, whole (c .before) .0)
 
 sub-check-rows : tie.Need-sub-check-rows
-sub-check-rows c = search needs
+sub-check-rows c = omega (arith, whole (c .before) .0)
 
 part-check-rows-start : tie.Need-part-check-rows-start
-part-check-rows-start c = search needs
+part-check-rows-start c = omega (arith, whole (c .before) .0)
 
 part-check-rows-end : tie.Need-part-check-rows-end
 part-check-rows-end c = search needs
 
 check-rows-requires : tie.Need-check-rows-requires
-check-rows-requires c κs = omega arith
+check-rows-requires c κs = omega (arith, whole (c .before .before) .1, c .before .u16-at .ensures .0)
 
-enum-known-checked : tie.Need-enum-known-checked
-enum-known-checked c = search needs
+section-of-requires-2 : tie.Need-section-of-requires-2
+section-of-requires-2 c κs =
+    let fine = whole (c .before .before .before) in
+    omega (arith, c .before .before .u16-at .ensures .0)
 
-enum-told : tie.Need-enum-told
-enum-told c = search needs
-
-mul-t19 : tie.Need-mul-t19
-mul-t19 c = search needs
-
-add-t20 : tie.Need-add-t20
-add-t20 c = search needs
-
-returns-4 : tie.Need-returns-4
-returns-4 c = sym (section (c .before .before .before) _ (c .before .checked .given .1))
-
-returns-5 : tie.Need-returns-5
-returns-5 c = sym (section (c .before .before) _ (c .enum-told .given .1))
+returns-2 : tie.Need-returns-2
+unfolding claimsAt
+returns-2 c =
+    let checked = c .before in
+    let read = checked .before .before in
+    let counted = read .before .before .before in
+    let a = counted .before .before .args in
+    let s = a .file .now in
+    let section : List ℕ → ℕ → Section = λ r n. sectionOf (rowsFrom r (a .cards) (a .shops) 0 n) n (a .at + 2) 5 in
+    c .section-of2 .ensures
+    ∙ ap (λ (x : Checked). sectionOf x (read .u16-at .result) (a .at + 2) 5) (checked .check-rows .ensures)
+    ∙ ap (λ (r : List ℕ). section r (read .u16-at .result)) (tail-is (a .at + 2) s)
+    ∙ ap (section (drop (a .at + 2) s)) (read .u16-at .ensures .0)
+    ∙ sym (section-fits s (a .at) maxRows ClaimCount _ _
+    (sym (counted .check-count .ensures) ∙ read .before .enum-told .given .1))
 
 pub read-claims-spec : {M : Type 1} → statement M
 read-claims-spec =
     tie.close
     (tie.spec
+    check-count-requires
+    enum-told
+    enum-told-2
+    section-of-requires
     returns
-    returns-2
     u16-at-requires
-    returns-3
     add-start
     sub-check-rows
     part-check-rows-start
     part-check-rows-end
     check-rows-requires
-    enum-known-checked
-    enum-told
-    mul-t19
-    add-t20
-    returns-4
-    returns-5)
+    section-of-requires-2
+    returns-2)

@@ -1,75 +1,90 @@
--- `read_groups` meets its contract.
-use mathlib.Core.Path.{_≡_, sym, _∙_}
-use Prim.Native.Nat.{_+_}
+-- `read_groups` meets its contract: a count without a fault is whole and small, so its records can be checked.
+use mathlib.Core.Path.{sym, _∙_, ap}
+use Prim.Native.Nat.{ℕ, _+_, _≤_}
 use native.Mathlib.Omega.{arith}
-use Rattle.claimfile.specs.File.{groupsRead, sectionAt}
-use Rattle.claimfile.specs.declared.Checked.{Checked}
-use Rattle.claimfile.proofs.FileLaws.{section-cut, section-large, section-is}
+use lib.ListN.{length}
 use borrow.Author.Needs.{needs}
+use Rattle.theory.specs.Bounds.{maxGroups}
+use Rattle.claimfile.specs.File.{word, groupsFrom, sectionOf, sectionAt}
+use Rattle.claimfile.specs.declared.Refusal.the-variants.{GroupCount}
+use Rattle.claimfile.specs.declared.Checked.{Checked}
+use Rattle.claimfile.proofs.FileLaws.{count-fine, section-fault, section-fits}
 use Rattle.claimfile.proofs.read_groups.Statement.{statement}
 use Rattle.claimfile.proofs.read_groups.Tie as tie
 
--- what is known once the records are checked
-section :
-    (c : tie.After-check-groups) (x : Checked) → c .check-groups .result ≡ x →
-    sectionAt (c .before .before .before .before .before .before .args .file .now)
-    (c .before .before .before .before .before .before .args .at)
-    ≡ groupsRead x (c .before .before .u16-at .result) (c .before .before .before .before .before .before .args .at + 2)
-section c x told =
-    let counted = c .before .before .u16-at in
-    let a = c .before .before .before .before .before .before .args in
-    section-is (a .file .now) (a .at) (omega arith) (counted .result) x (counted .ensures .0) (omega arith)
-    (sym told ∙ c .check-groups .ensures)
+-- what is known of the count once it has no fault
+whole :
+    (c : tie.After-enum-told) →
+    let a = c .before .before .before .before .args in
+    (a .at + 2 ≤ length (a .file .now)) × (word (a .file .now) (a .at) ≤ maxGroups)
+whole c =
+    let counted = c .before .before in
+    let a = counted .before .before .args in
+    let fine = count-fine (a .file .now) (a .at) _ _ (sym (counted .check-count .ensures) ∙ c .enum-told .given .1) in
+    (fine .0, omega arith)
 
-returns : tie.Need-returns
-returns c = sym (section-cut _ _ (omega arith))
-
-returns-2 : tie.Need-returns-2
-returns-2 c = sym (section-cut _ _ (omega arith))
-
-u16-at-requires : tie.Need-u16-at-requires
-u16-at-requires c κs = search needs
-
-returns-3 : tie.Need-returns-3
-returns-3 c = sym (section-large _ _ (omega arith) (omega (arith, c .before .u16-at .ensures .0)))
-
-add-start : tie.Need-add-start
-add-start c = search needs
-
-check-groups-requires : tie.Need-check-groups-requires
-check-groups-requires c κs = omega arith
-
-enum-known-checked : tie.Need-enum-known-checked
-enum-known-checked c = search needs
+check-count-requires : tie.Need-check-count-requires
+check-count-requires c κs = search needs
 
 enum-told : tie.Need-enum-told
 enum-told c = search needs
 
-mul-t14 : tie.Need-mul-t14
-mul-t14 c = search needs
+enum-told-2 : tie.Need-enum-told-2
+enum-told-2 c = search needs
 
-add-t15 : tie.Need-add-t15
-add-t15 c = search needs
+section-of-requires : tie.Need-section-of-requires
+section-of-requires c κs = search needs
 
-returns-4 : tie.Need-returns-4
-returns-4 c = sym (section (c .before .before .before) _ (c .before .checked .given .1))
+returns : tie.Need-returns
+unfolding sectionAt
+returns c =
+    let told = c .before .enum-told2 .given .1 in
+    let counted = c .before .before .before in
+    let a = counted .before .before .args in
+    c .section-of .ensures ∙ ap (λ (x : Checked). sectionOf x 0 0 4) told
+    ∙ sym (section-fault (a .file .now) (a .at) maxGroups GroupCount _ _ _ (sym (counted .check-count .ensures) ∙ told))
 
-returns-5 : tie.Need-returns-5
-returns-5 c = sym (section (c .before .before) _ (c .enum-told .given .1))
+u16-at-requires : tie.Need-u16-at-requires
+u16-at-requires c κs = whole c .0
+
+add-start : tie.Need-add-start
+add-start c = omega (arith, whole (c .before) .0)
+
+check-groups-requires : tie.Need-check-groups-requires
+check-groups-requires c κs =
+    let fine = whole (c .before) in
+    (omega arith, omega (arith, c .u16-at .ensures .0))
+
+section-of-requires-2 : tie.Need-section-of-requires-2
+section-of-requires-2 c κs =
+    let fine = whole (c .before .before) in
+    omega (arith, c .before .u16-at .ensures .0)
+
+returns-2 : tie.Need-returns-2
+unfolding sectionAt
+returns-2 c =
+    let checked = c .before in
+    let read = checked .before in
+    let counted = read .before .before .before in
+    let a = counted .before .before .args in
+    let s = a .file .now in
+    c .section-of2 .ensures
+    ∙ ap (λ (x : Checked). sectionOf x (read .u16-at .result) (a .at + 2) 4) (checked .check-groups .ensures)
+    ∙ ap (λ (n : ℕ). sectionOf (groupsFrom s (a .at + 2) 0 n) n (a .at + 2) 4) (read .u16-at .ensures .0)
+    ∙ sym (section-fits s (a .at) maxGroups GroupCount _ _
+    (sym (counted .check-count .ensures) ∙ read .before .enum-told .given .1))
 
 pub read-groups-spec : {M : Type 1} → statement M
 read-groups-spec =
     tie.close
     (tie.spec
+    check-count-requires
+    enum-told
+    enum-told-2
+    section-of-requires
     returns
-    returns-2
     u16-at-requires
-    returns-3
     add-start
     check-groups-requires
-    enum-known-checked
-    enum-told
-    mul-t14
-    add-t15
-    returns-4
-    returns-5)
+    section-of-requires-2
+    returns-2)

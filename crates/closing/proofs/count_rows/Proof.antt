@@ -1,14 +1,15 @@
--- `count_rows` meets its contract. The loop keeps that the rows passed are counted.
+-- The loop keeps that the rows passed are counted.
 use mathlib.Core.Path.{_≡_}
 use Prim.Native.Nat.{_-_, _≤_}
 use native.Mathlib.Omega.{arith}
+use Rattle.claimfile.specs.Day.{instanceOf}
 use Rattle.closing.specs.Settle.{CountsUpTo}
 use Rattle.closing.proofs.CountLaws.{counts-none}
 use Rattle.closing.proofs.count_rows.Statement.{statement}
 use Rattle.closing.proofs.count_rows.Tie as tie
 
 abbrev Inv-loop : tie.InvT-loop
-Inv-loop file layout choice rows counts₀ c₀ counts c = (c ≤ rows) × CountsUpTo file layout choice c counts
+Inv-loop file layout choice rows counts₀ c₀ counts c = (c ≤ rows) × CountsUpTo (instanceOf file layout) choice c counts
 
 abbrev μ-loop : tie.MeasureT-loop
 μ-loop file layout choice rows counts₀ c₀ counts c = rows - c
@@ -16,7 +17,7 @@ abbrev μ-loop : tie.MeasureT-loop
 loop-holds : tie.Need-loop-holds Inv-loop μ-loop
 loop-holds c =
     let a = c .before .before .args in
-    (omega arith, counts-none (a .file .now) (a .layout) (a .choice .now))
+    (omega arith, counts-none (instanceOf (a .file .now) (a .layout)) (a .choice .now))
 
 count-row-requires : tie.Need-count-row-requires Inv-loop μ-loop
 count-row-requires c κs =

@@ -1,7 +1,6 @@
--- `decide` meets its contract.
+-- With no row there is nothing to decide; else the tables hold the day, and what the solver leaves of them is its settlement.
 use native.Mathlib.Omega.{arith}
 use borrow.Author.Needs.{needs}
-use Rattle.claimfile.proofs.AcceptedLaws.{accepted-sound}
 use Rattle.closing.proofs.SettleLaws.{tables-given, tables-ready, solved-settlement, empty-settlement}
 use Rattle.closing.proofs.decide.Statement.{statement}
 use Rattle.closing.proofs.decide.Tie as tie
@@ -20,7 +19,7 @@ returns c =
 
 shape-of-requires : tie.Need-shape-of-requires
 shape-of-requires c κs =
-    let sound = accepted-sound _ _ (c .before .before .before .before .before .before .pre .accepted) in
+    let sound = c .before .before .before .before .before .before .pre .sound in
     (sound .cards-most, sound .shops-most, sound .rows-most)
 
 write-tables-requires : tie.Need-write-tables-requires
@@ -54,7 +53,7 @@ returns-2 c =
     let wrote = solved .before .before .before .before .before .before in
     let shape = wrote .before .before in
     let begin = shape .before .before .before .before .before .before .before in
-    solved-settlement _ _ (begin .pre .accepted) _ (shape .shape-of .ensures) _ _ _
+    solved-settlement _ _ (begin .pre .sound) _ (shape .shape-of .ensures) _ _ _
     (wrote .write-tables .ensures .tabled) (solved .solve .ensures)
 
 pub decide-spec : {M : Type 1} → statement M

@@ -1,4 +1,5 @@
--- `has_room` meets its contract.
+-- `has_room` meets its contract: with g as the measure, each call answers for the groups from g up by the record of group g and
+-- the answer for those from its parent up, which is smaller.
 use mathlib.Core.Path.{ap}
 use mathlib.Core.Bool.{false≢true, true≢false}
 use Prim.Native.Nat.{ℕ, _<_}
@@ -7,7 +8,8 @@ use borrow.Author.Needs.{needs}
 use borrow.Fn.Kinds.{In}
 use borrow.Fn.PlainCycle.{Measures, is, falls, and}
 use Rattle.claimfile.specs.declared.Group.{Group}
-use Rattle.claimfile.proofs.group_at.Reads as group-at-reads
+use Rattle.claimfile.proofs.group_of.Reads as group-of-reads
+use Rattle.claimfile.proofs.groups_on.Reads as groups-on-reads
 use Rattle.limits.proofs.ChainLaws.{room-none, room-top, full-here, asked-up}
 use Rattle.limits.proofs.has_room.Reads as has-room
 use Rattle.limits.proofs.has_room.Kinds as has-room-kinds
@@ -26,9 +28,23 @@ abbrev has-room-below : ℕ → In 2 has-room-kinds.ps
 has-room-below t =
     and 2 has-room-kinds.ps (falls 2 has-room-kinds.ps _<_ μ-has-room t) has-room.Pre
 
+has-room-groups-on-requires : (t : ℕ) → has-room-lts.Need-groups-on-requires (
+  groups-on-reads.Asked,
+  groups-on-reads.Learnt,
+  group-of-reads.Asked,
+  group-of-reads.Learnt,
+  wide-reads.Asked,
+  wide-reads.Learnt,
+  has-room-below t,
+  has-room.Post,
+) (has-room-at t) has-room.Post
+has-room-groups-on-requires t c κs = search needs
+
 has-room-returns : (t : ℕ) → has-room-lts.Need-returns (
-  group-at-reads.Asked,
-  group-at-reads.Learnt,
+  groups-on-reads.Asked,
+  groups-on-reads.Learnt,
+  group-of-reads.Asked,
+  group-of-reads.Learnt,
   wide-reads.Asked,
   wide-reads.Learnt,
   has-room-below t,
@@ -36,21 +52,28 @@ has-room-returns : (t : ℕ) → has-room-lts.Need-returns (
 ) (has-room-at t) has-room.Post
 has-room-returns t c =
     let a = c .before .before .before .before .args in
-    record { room = λ e. room-none (a .file .now) (a .groups) (a .counts .now) (a .g) (omega arith); full = λ e. absurd (true≢false e) }
+    record {
+      room = λ e. room-none (a .file .now) (a .layout) (a .side) (a .counts .now) (a .g) (omega arith);
+      full = λ e. absurd (true≢false e);
+    }
 
-has-room-group-at-requires : (t : ℕ) → has-room-lts.Need-group-at-requires (
-  group-at-reads.Asked,
-  group-at-reads.Learnt,
+has-room-group-of-requires : (t : ℕ) → has-room-lts.Need-group-of-requires (
+  groups-on-reads.Asked,
+  groups-on-reads.Learnt,
+  group-of-reads.Asked,
+  group-of-reads.Learnt,
   wide-reads.Asked,
   wide-reads.Learnt,
   has-room-below t,
   has-room.Post,
 ) (has-room-at t) has-room.Post
-has-room-group-at-requires t c κs = search needs
+has-room-group-of-requires t c κs = search needs
 
 has-room-mul-wide : (t : ℕ) → has-room-lts.Need-mul-wide (
-  group-at-reads.Asked,
-  group-at-reads.Learnt,
+  groups-on-reads.Asked,
+  groups-on-reads.Learnt,
+  group-of-reads.Asked,
+  group-of-reads.Learnt,
   wide-reads.Asked,
   wide-reads.Learnt,
   has-room-below t,
@@ -59,8 +82,10 @@ has-room-mul-wide : (t : ℕ) → has-room-lts.Need-mul-wide (
 has-room-mul-wide t c = search needs
 
 has-room-shared-slice-read-wide : (t : ℕ) → has-room-lts.Need-shared-slice-read-wide (
-  group-at-reads.Asked,
-  group-at-reads.Learnt,
+  groups-on-reads.Asked,
+  groups-on-reads.Learnt,
+  group-of-reads.Asked,
+  group-of-reads.Learnt,
   wide-reads.Asked,
   wide-reads.Learnt,
   has-room-below t,
@@ -69,8 +94,10 @@ has-room-shared-slice-read-wide : (t : ℕ) → has-room-lts.Need-shared-slice-r
 has-room-shared-slice-read-wide t c = search needs
 
 has-room-wide-requires : (t : ℕ) → has-room-lts.Need-wide-requires (
-  group-at-reads.Asked,
-  group-at-reads.Learnt,
+  groups-on-reads.Asked,
+  groups-on-reads.Learnt,
+  group-of-reads.Asked,
+  group-of-reads.Learnt,
   wide-reads.Asked,
   wide-reads.Learnt,
   has-room-below t,
@@ -79,8 +106,10 @@ has-room-wide-requires : (t : ℕ) → has-room-lts.Need-wide-requires (
 has-room-wide-requires t c κs = search needs
 
 has-room-returns-2 : (t : ℕ) → has-room-lts.Need-returns-2 (
-  group-at-reads.Asked,
-  group-at-reads.Learnt,
+  groups-on-reads.Asked,
+  groups-on-reads.Learnt,
+  group-of-reads.Asked,
+  group-of-reads.Learnt,
   wide-reads.Asked,
   wide-reads.Learnt,
   has-room-below t,
@@ -92,13 +121,15 @@ has-room-returns-2 t c =
     record {
       room = λ e. absurd (false≢true e);
       full = λ e.
-          full-here (a .file .now) (a .groups) (a .counts .now) (a .g) (omega arith)
-          (omega (arith, ap (λ (q : Group). q .limit) (at .group-at .ensures .0)));
+          full-here (a .file .now) (a .layout) (a .side) (a .counts .now) (a .g) (omega arith)
+          (omega (arith, ap (λ (q : Group). q .limit) (at .group-of .ensures .0)));
     }
 
 has-room-returns-3 : (t : ℕ) → has-room-lts.Need-returns-3 (
-  group-at-reads.Asked,
-  group-at-reads.Learnt,
+  groups-on-reads.Asked,
+  groups-on-reads.Learnt,
+  group-of-reads.Asked,
+  group-of-reads.Learnt,
   wide-reads.Asked,
   wide-reads.Learnt,
   has-room-below t,
@@ -109,25 +140,29 @@ has-room-returns-3 t c =
     let a = at .before .before .before .before .before .args in
     record {
       room = λ e.
-          room-top (a .file .now) (a .groups) (a .counts .now) (a .g) (omega arith) (at .group-at .result .parent)
-          (ap (λ (q : Group). q .parent) (at .group-at .ensures .0))
-          (omega (arith, ap (λ (q : Group). q .limit) (at .group-at .ensures .0))) (omega arith);
+          room-top (a .file .now) (a .layout) (a .side) (a .counts .now) (a .g) (omega arith) (at .group-of .result .parent)
+          (ap (λ (q : Group). q .parent) (at .group-of .ensures .0))
+          (omega (arith, ap (λ (q : Group). q .limit) (at .group-of .ensures .0))) (omega arith);
       full = λ e. absurd (true≢false e);
     }
 
 has-room-has-room-requires : (t : ℕ) → has-room-lts.Need-has-room-requires (
-  group-at-reads.Asked,
-  group-at-reads.Learnt,
+  groups-on-reads.Asked,
+  groups-on-reads.Learnt,
+  group-of-reads.Asked,
+  group-of-reads.Learnt,
   wide-reads.Asked,
   wide-reads.Learnt,
   has-room-below t,
   has-room.Post,
 ) (has-room-at t) has-room.Post
-has-room-has-room-requires t c κs = (omega arith, omega arith)
+has-room-has-room-requires t c κs = search needs
 
 has-room-returns-4 : (t : ℕ) → has-room-lts.Need-returns-4 (
-  group-at-reads.Asked,
-  group-at-reads.Learnt,
+  groups-on-reads.Asked,
+  groups-on-reads.Learnt,
+  group-of-reads.Asked,
+  group-of-reads.Learnt,
   wide-reads.Asked,
   wide-reads.Learnt,
   has-room-below t,
@@ -136,15 +171,17 @@ has-room-returns-4 : (t : ℕ) → has-room-lts.Need-returns-4 (
 has-room-returns-4 t c =
     let at = c .before .before .before .before .before .before .before in
     let a = at .before .before .before .before .before .args in
-    asked-up (a .file .now) (a .groups) (a .counts .now) (a .g) (omega arith) (at .group-at .result .parent)
-    (ap (λ (q : Group). q .parent) (at .group-at .ensures .0)) (omega arith) (c .has-room .result)
-    (omega (arith, ap (λ (q : Group). q .limit) (at .group-at .ensures .0)))
+    asked-up (a .file .now) (a .layout) (a .side) (a .counts .now) (a .g) (omega arith) (at .group-of .result .parent)
+    (ap (λ (q : Group). q .parent) (at .group-of .ensures .0)) (omega arith) (c .has-room .result)
+    (omega (arith, ap (λ (q : Group). q .limit) (at .group-of .ensures .0)))
     (c .has-room .ensures)
 
 pub +has-room-spec : {M : Type 1} → statement M
 +has-room-spec = close μ-has-room λ t. has-room-lts.spec (
-  group-at-reads.Asked,
-  group-at-reads.Learnt,
+  groups-on-reads.Asked,
+  groups-on-reads.Learnt,
+  group-of-reads.Asked,
+  group-of-reads.Learnt,
   wide-reads.Asked,
   wide-reads.Learnt,
   has-room-below t,
@@ -152,8 +189,9 @@ pub +has-room-spec : {M : Type 1} → statement M
 )
     (has-room-at t)
     has-room.Post
+    (has-room-groups-on-requires t)
     (has-room-returns t)
-    (has-room-group-at-requires t)
+    (has-room-group-of-requires t)
     (has-room-mul-wide t)
     (has-room-shared-slice-read-wide t)
     (has-room-wide-requires t)

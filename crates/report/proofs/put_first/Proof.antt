@@ -1,9 +1,9 @@
--- `put_first` meets its contract.
+-- `put_first` meets its contract: three fields and a line feed, which are four appends and so one.
 use native.Mathlib.Omega.{arith}
 use borrow.Author.Needs.{needs}
 use lib.ListN.{length-append}
+use Rattle.text.proofs.BufferLaws.{then, kept-length}
 use Rattle.report.specs.Text.{firstLine}
-use Rattle.report.proofs.BufferLaws.{then, kept-length}
 use Rattle.report.proofs.put_first.Statement.{statement}
 use Rattle.report.proofs.put_first.Tie as tie
 
@@ -12,7 +12,9 @@ slice-aggregate-put-field c = search needs
 
 put-field-requires : tie.Need-put-field-requires
 unfolding firstLine
-put-field-requires c κs = simp length-append (omega (arith, simp length-append at (c .before .before .before .pre)))
+put-field-requires c κs =
+    let start = c .before .before .before in
+    simp length-append (omega (arith, simp length-append at (start .pre)))
 
 slice-aggregate-put-field-2 : tie.Need-slice-aggregate-put-field-2
 slice-aggregate-put-field-2 c = search needs
@@ -21,12 +23,9 @@ put-field-requires-2 : tie.Need-put-field-requires-2
 unfolding firstLine
 put-field-requires-2 c κs =
     let rows = c .before .before .before .before in
+    let start = rows .before .before .before .before in
     simp length-append
-    (omega (
-      arith,
-      simp length-append at (rows .before .before .before .before .pre),
-      simp length-append at (rows .put-field .ensures .end),
-    ))
+    (omega (arith, simp length-append at (start .pre), simp length-append at (rows .put-field .ensures .end)))
 
 slice-aggregate-put-field-3 : tie.Need-slice-aggregate-put-field-3
 slice-aggregate-put-field-3 c = search needs
@@ -36,10 +35,11 @@ unfolding firstLine
 put-field-requires-3 c κs =
     let earned = c .before .before .before .before in
     let rows = earned .before .before .before .before .before in
+    let start = rows .before .before .before .before in
     simp length-append
     (omega (
       arith,
-      simp length-append at (rows .before .before .before .before .pre),
+      simp length-append at (start .pre),
       simp length-append at (rows .put-field .ensures .end),
       simp length-append at (earned .put-field2 .ensures .end),
     ))
@@ -50,9 +50,10 @@ put-requires c κs =
     let kept = c .before .before .before in
     let earned = kept .before .before .before .before .before in
     let rows = earned .before .before .before .before .before in
+    let start = rows .before .before .before .before in
     omega (
       arith,
-      simp length-append at (rows .before .before .before .before .pre),
+      simp length-append at (start .pre),
       simp length-append at (rows .put-field .ensures .end),
       simp length-append at (earned .put-field2 .ensures .end),
       simp length-append at (kept .put-field3 .ensures .end),

@@ -1,7 +1,13 @@
--- `write_closed` meets its contract.
+-- `write_closed` meets its contract: the text that was put into the cell of no use tells the length, and the same text is then put
+-- into the buffer where it fits.
+use mathlib.Core.List.{List}
+use Prim.Native.Nat.{ℕ}
+use native.Mathlib.Omega.{arith}
 use borrow.Author.Needs.{needs}
-use Rattle.report.specs.Text.{kindIn, byteIn, closedText}
-use Rattle.report.proofs.BufferLaws.{whole, short}
+use Rattle.theory.specs.Matroid.{row}
+use Rattle.text.proofs.BufferLaws.{whole, short}
+use Rattle.claimfile.specs.Day.{kindOf}
+use Rattle.report.specs.Text.{closedText}
 use Rattle.report.proofs.write_closed.Statement.{statement}
 use Rattle.report.proofs.write_closed.Tie as tie
 
@@ -11,8 +17,17 @@ slice-aggregate-put-closed c = search needs
 put-closed-requires : tie.Need-put-closed-requires
 put-closed-requires c κs = search needs
 
+-- the text
+abbrev text : tie.Start → List ℕ
+text c =
+    let a = c .args in
+    closedText (a .layout .rows) (kindOf (a .file .now) (a .layout)) (row (a .choice .now)) (a .earned) (a .kept) (a .total)
+
 returns : tie.Need-returns
-returns c = short (c .before .before .put-closed .ensures) (c .if1 .taken)
+returns c =
+    let measured = c .before .before in
+    let start = measured .before .before .before .before .before in
+    short {a = text start} (measured .put-closed .ensures) (omega arith)
 
 put-closed-requires-2 : tie.Need-put-closed-requires-2
 put-closed-requires-2 c κs = search needs
@@ -24,12 +39,8 @@ returns-2 : tie.Need-returns-2
 returns-2 c =
     let put = c .before .before in
     let measured = put .before .before .before .before in
-    let args = measured .before .before .before .before .before .args in
-    whole
-    {a = closedText (args .rows) (kindIn (args .claims .now)) (byteIn (args .choice .now)) (args .earned) (args .kept) (args .total)}
-    (measured .put-closed .ensures)
-    (put .before .before .if1 .left)
-    (put .put-closed2 .ensures)
+    let start = measured .before .before .before .before .before in
+    whole {a = text start} (measured .put-closed .ensures) (omega arith) (put .put-closed2 .ensures)
 
 pub write-closed-spec : {M : Type 1} → statement M
 write-closed-spec =

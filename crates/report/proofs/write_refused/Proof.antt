@@ -1,11 +1,12 @@
--- `write_refused` meets its contract.
+-- `write_refused` meets its contract: the line that was put into the cell of no use tells the length, and the same line is then put
+-- into the buffer where it fits.
 use Prim.Native.Nat.{_^_, _<_}
 use native.Mathlib.Omega.{arith}
 use borrow.Author.Needs.{needs}
 use lib.ListN.{length}
+use Rattle.text.proofs.BufferLaws.{whole, short}
 use Rattle.report.specs.Text.{refusedText}
 use Rattle.report.proofs.TextLaws.{refused-length}
-use Rattle.report.proofs.BufferLaws.{whole, short}
 use Rattle.report.proofs.write_refused.Statement.{statement}
 use Rattle.report.proofs.write_refused.Tie as tie
 
@@ -20,18 +21,25 @@ slice-aggregate-put-line-2 c = search needs
 
 put-line-requires : tie.Need-put-line-requires
 unfolding refusedText
-put-line-requires c κs = omega (arith, room (c .before .before .before))
+put-line-requires c κs =
+    let start = c .before .before .before in
+    omega (arith, room start)
 
 returns : tie.Need-returns
 unfolding refusedText
-returns c = short (c .before .before .put-line .ensures) (c .if1 .taken)
+returns c =
+    let measured = c .before .before in
+    short (measured .put-line .ensures) (omega arith)
 
 slice-aggregate-put-line-3 : tie.Need-slice-aggregate-put-line-3
 slice-aggregate-put-line-3 c = search needs
 
 put-line-requires-2 : tie.Need-put-line-requires-2
 unfolding refusedText
-put-line-requires-2 c κs = omega (arith, room (c .before .before .before .before .before .before .before .before))
+put-line-requires-2 c κs =
+    let measured = c .before .before .before .before in
+    let start = measured .before .before .before .before in
+    omega (arith, room start)
 
 same-length : tie.Need-same-length
 same-length c = search needs
@@ -40,7 +48,8 @@ returns-2 : tie.Need-returns-2
 unfolding refusedText
 returns-2 c =
     let put = c .before .before in
-    whole (put .before .before .before .before .before .put-line .ensures) (put .before .before .before .if1 .left) (put .put-line2 .ensures)
+    let measured = put .before .before .before .before .before in
+    whole (measured .put-line .ensures) (omega arith) (put .put-line2 .ensures)
 
 pub write-refused-spec : {M : Type 1} → statement M
 write-refused-spec =

@@ -8,6 +8,9 @@ use Rattle.residual.specs.Map.{cells}
 use Rattle.solver_probe.proofs.lengths_are.Statement.{statement}
 use Rattle.solver_probe.proofs.lengths_are.Tie as tie
 
+mul-if1 : tie.Need-mul-if1
+mul-if1 c = search needs
+
 returns : tie.Need-returns
 returns c = λ e. absurd (true≢false (sym e))
 
@@ -53,6 +56,7 @@ pub lengths-are-spec : {M : Type 1} → statement M
 lengths-are-spec =
     tie.close
     (tie.spec
+    mul-if1
     returns
     returns-2
     mul-if3

@@ -1,5 +1,5 @@
 -- `probe_solve` asks nothing.
-use mathlib.Core.Path.{refl, _∙_}
+use mathlib.Core.Path.{refl}
 use native.Mathlib.Omega.{arith}
 use borrow.Author.Tests.{not-false}
 use Rattle.solver_probe.proofs.ProbeLaws.{lengths-room}
@@ -19,24 +19,19 @@ lengths-are-requires c κs = search needs
 returns-3 : tie.Need-returns-3
 returns-3 c = search needs
 
-write-groups-requires : tie.Need-write-groups-requires
-write-groups-requires c κs =
+write-tables-requires : tie.Need-write-tables-requires
+write-tables-requires c κs =
     let tested = c .before in
     let lengths = tested .before .lengths-are .ensures (not-false _ (tested .if3 .left)) in
-    (lengths-room lengths refl, lengths .groups)
-
-write-rows-requires : tie.Need-write-rows-requires
-write-rows-requires c κs =
-    let tested = c .before .before .before .before .before in
-    let lengths = tested .before .lengths-are .ensures (not-false _ (tested .if3 .left)) in
-    (lengths-room lengths (c .before .before .before .write-groups .kept .1 .0), lengths .rows)
+    (lengths-room lengths refl, (lengths .groups, lengths .rows))
 
 solve-network-requires : tie.Need-solve-network-requires
 solve-network-requires c κs =
-    let tested = c .before .before .before .before .before .before .before .before .before .before .before in
+    let written = c .before .before .before .before .before in
+    let tested = written .before .before in
     let lengths = tested .before .lengths-are .ensures (not-false _ (tested .if3 .left)) in
     record {
-      room = lengths-room lengths (c .before .before .before .before .before .write-rows .kept .1 .0 ∙ c .before .before .before .before .before .before .before .before .before .write-groups .kept .1 .0);
+      room = lengths-room lengths (written .write-tables .kept .1 .1 .1 .0);
       all = refl;
       fresh = refl;
       high = omega arith;
@@ -76,8 +71,7 @@ probe-solve-spec =
     returns-2
     lengths-are-requires
     returns-3
-    write-groups-requires
-    write-rows-requires
+    write-tables-requires
     solve-network-requires
     same-length
     same-length-2

@@ -1,67 +1,43 @@
--- `groups` meets its contract.
-use mathlib.Core.Path.{_≡_}
-use Prim.Native.Nat.{_-_, _≤_}
+-- The loop keeps the buffer's length.
+use mathlib.Core.Path.{_≡_, refl, _∙_}
+use Prim.Native.Nat.{_+_, _-_, _≤_}
+use native.Mathlib.Omega.{arith}
 use borrow.Author.Needs.{needs}
 use lib.ListN.{length}
 use Rattle.claimfile_test.proofs.build.groups.Statement.{statement}
 use Rattle.claimfile_test.proofs.build.groups.Tie as tie
 
 abbrev Inv-loop : tie.InvT-loop
-Inv-loop buf₀ at count g₀ buf g = (g ≤ count) × (length buf ≡ length buf₀)
+Inv-loop at count buf₀ next₀ g₀ buf next g = (g ≤ count) × (length buf ≡ length buf₀)
 
 abbrev μ-loop : tie.MeasureT-loop
-μ-loop buf₀ at count g₀ buf g = count - g
+μ-loop at count buf₀ next₀ g₀ buf next g = count - g
 
 put-requires : tie.Need-put-requires Inv-loop μ-loop
 put-requires c κs = search needs
 
 loop-holds : tie.Need-loop-holds Inv-loop μ-loop
-loop-holds c = search needs
+loop-holds c = (omega arith, refl)
 
-add-put : tie.Need-add-put Inv-loop μ-loop
-add-put c = search needs
-
-mul-put : tie.Need-mul-put Inv-loop μ-loop
-mul-put c = search needs
-
-add-put-2 : tie.Need-add-put-2 Inv-loop μ-loop
-add-put-2 c = search needs
-
-put-requires-2 : tie.Need-put-requires-2 Inv-loop μ-loop
-put-requires-2 c κs = search needs
-
-add-put-3 : tie.Need-add-put-3 Inv-loop μ-loop
-add-put-3 c = search needs
-
-mul-put-2 : tie.Need-mul-put-2 Inv-loop μ-loop
-mul-put-2 c = search needs
-
-add-put-4 : tie.Need-add-put-4 Inv-loop μ-loop
-add-put-4 c = search needs
-
-put-requires-3 : tie.Need-put-requires-3 Inv-loop μ-loop
-put-requires-3 c κs = search needs
+put-group-requires : tie.Need-put-group-requires Inv-loop μ-loop
+put-group-requires c κs = search needs
 
 add-g : tie.Need-add-g Inv-loop μ-loop
-add-g c = search needs
+add-g c = omega arith
 
 loop-less : tie.Need-loop-less Inv-loop μ-loop
-loop-less c = search needs
+loop-less c = omega arith
 
 loop-again : tie.Need-loop-again Inv-loop μ-loop
-loop-again c = search needs
-
-add-result : tie.Need-add-result Inv-loop μ-loop
-add-result c = search needs
-
-mul-result : tie.Need-mul-result Inv-loop μ-loop
-mul-result c = search needs
-
-add-result-2 : tie.Need-add-result-2 Inv-loop μ-loop
-add-result-2 c = search needs
+loop-again c =
+    let wrote = c .before .before in
+    let at-loop = wrote .before .before .before in
+    (omega arith, wrote .put-group .kept .1 .1 .1 .0 ∙ at-loop .loop .inv .1)
 
 same-length : tie.Need-same-length Inv-loop μ-loop
-same-length c = search needs
+same-length c =
+    let at-loop = c .before in
+    at-loop .loop .inv .1 ∙ at-loop .before .before .before .put .kept .1 .1 .0
 
 returns : tie.Need-returns Inv-loop μ-loop
 returns c = search needs
@@ -74,19 +50,9 @@ groups-spec =
     μ-loop
     put-requires
     loop-holds
-    add-put
-    mul-put
-    add-put-2
-    put-requires-2
-    add-put-3
-    mul-put-2
-    add-put-4
-    put-requires-3
+    put-group-requires
     add-g
     loop-less
     loop-again
-    add-result
-    mul-result
-    add-result-2
     same-length
     returns)

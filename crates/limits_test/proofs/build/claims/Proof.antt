@@ -1,46 +1,43 @@
--- `claims` meets its contract.
-use mathlib.Core.Path.{_≡_}
-use Prim.Native.Nat.{_-_}
-use lib.ListN.{length}
+-- The loop keeps the buffer's length.
+use mathlib.Core.Path.{_≡_, refl, _∙_}
+use Prim.Native.Nat.{_+_, _-_, _≤_}
+use native.Mathlib.Omega.{arith}
 use borrow.Author.Needs.{needs}
+use lib.ListN.{length}
 use Rattle.limits_test.proofs.build.claims.Statement.{statement}
 use Rattle.limits_test.proofs.build.claims.Tie as tie
 
 abbrev Inv-loop : tie.InvT-loop
-Inv-loop buf₀ at card c₀ buf c = length buf ≡ length buf₀
+Inv-loop at card buf₀ next₀ c₀ buf next c = (c ≤ 6) × (length buf ≡ length buf₀)
 
 abbrev μ-loop : tie.MeasureT-loop
-μ-loop buf₀ at card c₀ buf c = 6 - c
+μ-loop at card buf₀ next₀ c₀ buf next c = 6 - c
 
 put-requires : tie.Need-put-requires Inv-loop μ-loop
 put-requires c κs = search needs
 
 loop-holds : tie.Need-loop-holds Inv-loop μ-loop
-loop-holds c = search needs
+loop-holds c = (omega arith, refl)
 
-add-put : tie.Need-add-put Inv-loop μ-loop
-add-put c = search needs
-
-mul-put : tie.Need-mul-put Inv-loop μ-loop
-mul-put c = search needs
-
-add-put-2 : tie.Need-add-put-2 Inv-loop μ-loop
-add-put-2 c = search needs
-
-put-requires-2 : tie.Need-put-requires-2 Inv-loop μ-loop
-put-requires-2 c κs = search needs
+put-claim-requires : tie.Need-put-claim-requires Inv-loop μ-loop
+put-claim-requires c κs = search needs
 
 add-c : tie.Need-add-c Inv-loop μ-loop
-add-c c = search needs
+add-c c = omega arith
 
 loop-less : tie.Need-loop-less Inv-loop μ-loop
-loop-less c = search needs
+loop-less c = omega arith
 
 loop-again : tie.Need-loop-again Inv-loop μ-loop
-loop-again c = search needs
+loop-again c =
+    let wrote = c .before .before in
+    let at-loop = wrote .before .before .before in
+    (omega arith, wrote .put-claim .kept .1 .1 .1 .0 ∙ at-loop .loop .inv .1)
 
 same-length : tie.Need-same-length Inv-loop μ-loop
-same-length c = search needs
+same-length c =
+    let at-loop = c .before in
+    at-loop .loop .inv .1 ∙ at-loop .before .before .before .put .kept .1 .1 .0
 
 returns : tie.Need-returns Inv-loop μ-loop
 returns c = search needs
@@ -53,10 +50,7 @@ claims-spec =
     μ-loop
     put-requires
     loop-holds
-    add-put
-    mul-put
-    add-put-2
-    put-requires-2
+    put-claim-requires
     add-c
     loop-less
     loop-again

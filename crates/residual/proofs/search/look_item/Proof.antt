@@ -1,6 +1,6 @@
 use mathlib.Core.Path.{refl, sym}
 use mathlib.Core.Logic.{inl, inr}
-use Rattle.residual.specs.State.{network}
+use Rattle.residual.specs.View.{netOf}
 use Rattle.residual.proofs.ReachLaws.{arc-row, arc-child}
 use Rattle.residual.proofs.SearchLaws.{looked-as, item-down, item-row, ends-card, ends-shop, at-shop}
 use borrow.Author.Needs.{needs}
@@ -22,7 +22,7 @@ same-length c = search needs
 returns : tie.Need-returns
 returns c =
     let S = c .before .before .before .before .before .before .before .before in
-    looked-as refl (arc-child (network (S .args .sh) (S .args .scratch .now)) (c .before .before .before .before .if1 .taken)) (c .before .before .look-down .ensures)
+    looked-as refl (arc-child (netOf (S .args .sh) (S .args .scratch .now)) (c .before .before .before .before .if1 .taken)) (c .before .before .look-down .ensures)
 
 card-requires : tie.Need-card-requires
 card-requires c κs = search needs
@@ -42,7 +42,7 @@ same-length-2 c = search needs
 returns-2 : tie.Need-returns-2
 returns-2 c =
     let S = c .before .before .before .before .before .before .before .before .before .before .before .before .before in
-    looked-as (c .before .before .before .before .if2 .taken) (arc-row (network (S .args .sh) (S .args .scratch .now)) (c .before .before .before .before .before .before .before .before .before .if1 .left)) (c .before .before .look-row .ensures)
+    looked-as (c .before .before .before .before .if2 .taken) (arc-row (netOf (S .args .sh) (S .args .scratch .now)) (c .before .before .before .before .before .before .before .before .before .if1 .left)) (c .before .before .look-row .ensures)
 
 look-row-requires-2 : tie.Need-look-row-requires-2
 look-row-requires-2 c κs =
@@ -58,7 +58,7 @@ returns-3 c =
     let S = c .before .before .before .before .before .before .before .before .before .before .before .before .before in
     let l = c .before .before .before .before .before .before .before .before .before .if1 .left in
     looked-as (at-shop (S .pre .1) l (c .before .before .before .before .before .before .before .card .ensures) (c .before .before .before .before .before .shop .ensures) (c .before .before .before .before .if2 .left))
-    (arc-row (network (S .args .sh) (S .args .scratch .now)) l) (c .before .before .look-row2 .ensures)
+    (arc-row (netOf (S .args .sh) (S .args .scratch .now)) l) (c .before .before .look-row2 .ensures)
 
 pub look-item-spec : {M : Type 1} → statement M
 look-item-spec =

@@ -11,10 +11,10 @@ use Rattle.residual.proofs.search.take_next.Reads as take-next-reads
 use Rattle.residual.proofs.search.scan.Reads as scan-reads
 
 abbrev Inv-loop : tie.InvT-loop
-Inv-loop scratch₀ sheet choice sh target n₀ h₀ scratch n h = Going sh sheet choice scratch₀ scratch n h
+Inv-loop sh target choice sheet scratch₀ n₀ h₀ scratch n h = Going sh choice sheet scratch₀ scratch n h
 
 abbrev μ-loop : tie.MeasureT-loop
-μ-loop scratch₀ sheet choice sh target n₀ h₀ scratch n h = sh .groups + 3 - h
+μ-loop sh target choice sheet scratch₀ n₀ h₀ scratch n h = sh .groups + 3 - h
 
 loop-holds : tie.Need-loop-holds Inv-loop μ-loop
 loop-holds c = going-first (c .before .before .before .pre)

@@ -1,15 +1,15 @@
--- `write_tables` meets its contract.
+-- The card groups, the shop groups and the rows, one after the other, are all the tables.
 use mathlib.Core.Path.{refl, _∙_}
 use native.Mathlib.Omega.{arith}
 use borrow.Author.Needs.{needs}
-use Rattle.tables.proofs.WriteLaws.{given-keeps, given-section, wrote}
+use Rattle.tables.proofs.WriteLaws.{given-keeps, given-hosts, wrote}
 use Rattle.tables.proofs.write.write_tables.Statement.{statement}
 use Rattle.tables.proofs.write.write_tables.Tie as tie
 
 write-groups-requires : tie.Need-write-groups-requires
 write-groups-requires c κs =
     let start = c .before .before .before in
-    given-section _ _ (start .args .sh) (start .args .scratch .now) _ _ _ _ (start .pre) refl (omega arith)
+    given-hosts _ _ (start .args .sh) (start .args .scratch .now) _ _ _ _ (start .pre) refl (omega arith)
     (omega arith)
 
 add-write-groups : tie.Need-add-write-groups
@@ -19,7 +19,7 @@ write-groups-requires-2 : tie.Need-write-groups-requires-2
 write-groups-requires-2 c κs =
     let cards = c .before .before .before in
     let start = cards .before .before .before .before in
-    given-section _ _ (start .args .sh) (start .args .scratch .now) _ _ _ _ (start .pre)
+    given-hosts _ _ (start .args .sh) (start .args .scratch .now) _ _ _ _ (start .pre)
     (cards .write-groups .ensures .keeps .long) (omega arith) (omega arith)
 
 write-rows-requires : tie.Need-write-rows-requires

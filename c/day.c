@@ -1,0 +1,260 @@
+/* The day, its file, days drawn at random, plain answers and the count of cases. c/day.h says what each function is for. */
+#include "day.h"
+
+#include <stdarg.h>
+#include <stdio.h>
+#include <string.h>
+
+/* ---- The day and its file ---- */
+
+uint8_t *put16(uint8_t *at, unsigned x) {
+    at[0] = (uint8_t)x;
+    at[1] = (uint8_t)(x >> 8);
+    return at + 2;
+}
+
+void write_day(const struct day *d, struct file *f) {
+    uint8_t *at = f->bytes;
+    for (int side = 0; side < 2; side++) {
+        at = put16(at, d->groups[side]);
+        for (unsigned g = 0; g < d->groups[side]; g++) at = put16(put16(at, d->parent[side][g]), d->limit[side][g]);
+    }
+    at = put16(at, d->rows);
+    for (unsigned c = 0; c < d->rows; c++) {
+        at = put16(put16(at, d->group[CARD][c]), d->group[SHOP][c]);
+        *at++ = d->kind[c];
+    }
+    f->length = (size_t)(at - f->bytes);
+}
+
+/* One group section from *at on. */
+static unsigned read_groups(const uint8_t *file, size_t length, size_t *at, unsigned *count, uint16_t *parent, uint16_t *limit) {
+    if (length - *at < 2) return 1;
+    unsigned groups = get16(file + *at);
+    if (groups > MOST_GROUPS) return 2;
+    *at += 2;
+    for (unsigned g = 0; g < groups; g++, *at += 4) {
+        if (length - *at < 4) return 1;
+        parent[g] = (uint16_t)get16(file + *at);
+        limit[g] = (uint16_t)get16(file + *at + 2);
+        if (parent[g] >= g && parent[g] != TOP) return 3;
+    }
+    *count = groups;
+    return 0;
+}
+
+static unsigned read_rows(const uint8_t *file, size_t length, size_t *at, struct day *d) {
+    if (length - *at < 2) return 1;
+    unsigned rows = get16(file + *at);
+    if (rows > MOST_ROWS) return 4;
+    *at += 2;
+    for (unsigned c = 0; c < rows; c++, *at += 5) {
+        if (length - *at < 5) return 1;
+        d->group[CARD][c] = (uint16_t)get16(file + *at);
+        d->group[SHOP][c] = (uint16_t)get16(file + *at + 2);
+        d->kind[c] = file[*at + 4];
+        if (d->group[CARD][c] >= d->groups[CARD] || d->group[SHOP][c] >= d->groups[SHOP]) return 5;
+        if (d->kind[c] > 1) return 6;
+    }
+    d->rows = rows;
+    return 0;
+}
+
+unsigned read_day(const uint8_t *file, size_t length, struct day *d) {
+    size_t at = 0;
+    unsigned fault = 0;
+    for (int side = 0; side < 2 && !fault; side++)
+        fault = read_groups(file, length, &at, &d->groups[side], d->parent[side], d->limit[side]);
+    if (!fault) fault = read_rows(file, length, &at, d);
+    return fault ? fault : at < length ? 7 : 0;
+}
+
+/* ---- Days, made and drawn ---- */
+
+struct day flat_day(unsigned cards, unsigned card_limit, unsigned shops, unsigned shop_limit) {
+    struct day d = {.groups = {cards, shops}};
+    for (int side = 0; side < 2; side++)
+        for (unsigned g = 0; g < d.groups[side]; g++) {
+            d.parent[side][g] = TOP;
+            d.limit[side][g] = (uint16_t)(side == CARD ? card_limit : shop_limit);
+        }
+    return d;
+}
+
+void add_row(struct day *d, unsigned card, unsigned shop, unsigned kind) {
+    d->group[CARD][d->rows] = (uint16_t)card;
+    d->group[SHOP][d->rows] = (uint16_t)shop;
+    d->kind[d->rows++] = (uint8_t)kind;
+}
+
+static uint64_t state;
+
+void start_numbers(uint64_t seed) { state = seed; }
+
+/* The method is known as splitmix64. */
+unsigned below(unsigned n) {
+    uint64_t x = state += 0x9e3779b97f4a7c15u;
+    x = (x ^ x >> 30) * 0xbf58476d1ce4e5b9u;
+    x = (x ^ x >> 27) * 0x94d049bb133111ebu;
+    return (unsigned)((x ^ x >> 31) % n);
+}
+
+void hang_chains(struct day *d, unsigned side, unsigned chains) {
+    for (unsigned g = 0; g < d->groups[side]; g++) d->parent[side][g] = (uint16_t)(g < chains ? TOP : g - chains);
+}
+
+void hang_forest(struct day *d, unsigned side, unsigned chained, unsigned tops) {
+    for (unsigned g = 0; g < d->groups[side]; g++) {
+        unsigned parent;
+        if (g == 0)
+            parent = TOP;
+        else if (chained && below(8) < chained)
+            parent = g - 1;
+        else
+            parent = below(tops) == 0 ? TOP : below(g);
+        d->parent[side][g] = (uint16_t)parent;
+    }
+}
+
+void draw_side(struct day *d, unsigned side, unsigned count, unsigned most) {
+    d->groups[side] = count;
+    hang_forest(d, side, below(3) ? 0 : below(9), 3);
+    for (unsigned g = 0; g < count; g++) d->limit[side][g] = (uint16_t)(below(16) == 0 ? TOP : below(12) == 0 ? 0 : 1 + below(most));
+}
+
+void draw_rows(struct day *d, unsigned count, unsigned kinds) {
+    for (; count > 0; count--) {
+        unsigned card = below(d->groups[CARD]), shop = below(d->groups[SHOP]);
+        add_row(d, card, shop, below(kinds));
+    }
+}
+
+struct day random_day(unsigned groups, unsigned rows) {
+    struct day d = {0};
+    for (unsigned side = 0; side < 2; side++) draw_side(&d, side, 1 + below(groups), 1 + below(1 + rows / 4));
+    draw_rows(&d, below(rows + 1), 2);
+    return d;
+}
+
+/* ---- Plain answers ---- */
+
+unsigned count_rows(const struct day *d, const uint8_t *selection, unsigned least) {
+    unsigned count = 0;
+    for (unsigned c = 0; c < d->rows; c++) count += selection[c] && d->kind[c] >= least;
+    return count;
+}
+
+int fits_side(const struct day *d, unsigned side, const uint8_t *selection) {
+    unsigned count[MOST_GROUPS] = {0};
+    for (unsigned c = 0; c < d->rows; c++) {
+        if (!selection[c]) continue;
+        for (unsigned g = d->group[side][c]; g != TOP; g = d->parent[side][g])
+            if (++count[g] > d->limit[side][g]) return 0;
+    }
+    return 1;
+}
+
+int fits_day(const struct day *d, const uint8_t *selection) { return fits_side(d, CARD, selection) && fits_side(d, SHOP, selection); }
+
+struct ranked rank_side(const struct day *d, unsigned side, const uint8_t *selection) {
+    unsigned come[MOST_GROUPS] = {0};
+    struct ranked r = {1, 0};
+    for (unsigned c = 0; c < d->rows; c++) come[d->group[side][c]] += selection[c];
+    for (unsigned g = d->groups[side]; g-- > 0;) {
+        unsigned pass = come[g];
+        if (pass > d->limit[side][g]) {
+            pass = d->limit[side][g];
+            r.fits = 0;
+        }
+        if (d->parent[side][g] == TOP)
+            r.rank += pass;
+        else
+            come[d->parent[side][g]] += pass;
+    }
+    return r;
+}
+
+/* Whether a selection has more rows of the highest kind in which it differs from another, or else the first row in which it differs. */
+static int is_better(const struct day *d, unsigned kinds, const uint8_t *one, const uint8_t *other) {
+    for (unsigned kind = kinds; kind-- > 0;) {
+        int more = 0;
+        for (unsigned c = 0; c < d->rows; c++)
+            if (d->kind[c] == kind) more += one[c] - other[c];
+        if (more != 0) return more > 0;
+    }
+    for (unsigned c = 0; c < d->rows; c++)
+        if (one[c] != other[c]) return one[c];
+    return 0;
+}
+
+void search_all(const struct day *d, unsigned kinds, uint8_t *best) {
+    uint8_t set[32]; /* one cell for each bit of a number */
+    memset(best, 0, d->rows);
+    for (unsigned bits = 0; bits < 1u << d->rows; bits++) {
+        for (unsigned c = 0; c < d->rows; c++) set[c] = bits >> c & 1;
+        if (is_better(d, kinds, set, best) && fits_day(d, set)) memcpy(best, set, d->rows);
+    }
+}
+
+uint64_t weight_of(const struct day *d, unsigned kind) {
+    uint64_t weight = 1;
+    while (kind--) weight *= d->rows + 1;
+    return weight;
+}
+
+uint64_t worth_of(const struct day *d, const uint8_t *choice) {
+    uint64_t worth = 0;
+    for (unsigned c = 0; c < d->rows; c++)
+        if (choice[c]) worth += weight_of(d, d->kind[c]);
+    return worth;
+}
+
+int certified(const struct day *d, unsigned kinds, const uint8_t *choice, const uint32_t *sheet) {
+    const uint32_t *marks[2] = {sheet, sheet + d->groups[CARD]}, *row_marks = sheet + d->groups[CARD] + d->groups[SHOP];
+    uint64_t total = 0, most = weight_of(d, kinds - 1);
+    for (int side = 0; side < 2; side++)
+        for (unsigned g = 0; g < d->groups[side]; g++) {
+            if (marks[side][g] > most) return 0;
+            total += (uint64_t)d->limit[side][g] * marks[side][g];
+        }
+    for (unsigned c = 0; c < d->rows; c++) {
+        uint64_t paid = row_marks[c];
+        if (paid > most) return 0;
+        total += paid;
+        for (int side = 0; side < 2; side++)
+            for (unsigned g = d->group[side][c]; g != TOP; g = d->parent[side][g]) paid += marks[side][g];
+        if (paid < weight_of(d, d->kind[c])) return 0;
+    }
+    return total == worth_of(d, choice);
+}
+
+/* ---- Cases ---- */
+
+static unsigned passed, failed; /* since the last line of a part */
+static unsigned passed_before, failed_before;
+
+void expect(int ok, const char *what, ...) {
+    va_list words;
+    if (ok) {
+        passed++;
+        return;
+    }
+    failed++;
+    printf("failed: ");
+    va_start(words, what);
+    vprintf(what, words);
+    va_end(words);
+    printf("\n");
+}
+
+void part_done(const char *name) {
+    printf("%s: %u passed, %u failed\n", name, passed, failed);
+    passed_before += passed;
+    failed_before += failed;
+    passed = failed = 0;
+}
+
+int all_done(void) {
+    printf("%u passed, %u failed\n", passed_before + passed, failed_before + failed);
+    return failed_before + failed != 0;
+}

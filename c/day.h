@@ -1,0 +1,154 @@
+/*
+ * A day of bread claims for the C tests and for bench/: the day as tables, the bytes of its claim file, days drawn at random, plain
+ * answers to compare the library's answers with, and the count of passed and failed cases. c/day.c has the code.
+ *
+ * How to read this file. It lists what a program may use from c/day.c. `enum` gives names to numbers, and `struct` one name to several
+ * values. `unsigned` is a whole number from 0 up; `uint8_t`, `uint16_t`, `uint32_t` and `uint64_t` are such numbers of 8, 16, 32 and 64
+ * bits, and `size_t` is a length. `x[n]` is a list of n cells, numbered from 0. A line that ends in brackets is a function: before its
+ * name stands what it answers (`void` is nothing, and `int` is 1 for yes and 0 for no here), in the brackets what it is given. A `*`
+ * says that it is told where a thing stands in place of the thing itself; with `const` before it the thing is only read.
+ */
+#ifndef DAY_H
+#define DAY_H
+
+#include <stddef.h>
+#include <stdint.h>
+
+#ifdef __cplusplus
+extern "C" {
+#endif
+
+/* The bounds of document 01. All other C files use these names. */
+enum {
+    MOST_GROUPS = 256, /* in one section */
+    MOST_ROWS = 512,
+    MOST_FILE = 4614, /* bytes of the longest file, in which all three sections are full */
+    TOP = 65535       /* the parent of a group at the top; also the largest limit */
+};
+
+/* What follows from them: how many marks the sheet of the largest day has. */
+enum { MOST_MARKS = 2 * MOST_GROUPS + MOST_ROWS };
+
+/* The two sides of a day, as numbers in the tables below. */
+enum { CARD, SHOP };
+
+/* ---- The day and its file ---- */
+
+/*
+ * A day as tables. groups[CARD] is the number of card groups and groups[SHOP] that of shop groups; parent[SHOP][3] is the parent of
+ * shop group 3; group[CARD][7] is the card group that row 7 names; kind[7] is 1 where row 7 is earned, and 0 where it is ordinary.
+ * The solver's tests also use kinds up to 3, and the group TOP for a row that is counted in no group of that side.
+ */
+struct day {
+    unsigned groups[2];
+    unsigned rows;
+    uint16_t parent[2][MOST_GROUPS], limit[2][MOST_GROUPS];
+    uint16_t group[2][MOST_ROWS];
+    uint8_t kind[MOST_ROWS];
+};
+
+/* The bytes of a claim file. One byte more than the longest file, so that a damaged one can be too long. */
+struct file {
+    size_t length;
+    uint8_t bytes[MOST_FILE + 1];
+};
+
+/* The number of 16 bits that stands at a place, low byte first. */
+static inline unsigned get16(const uint8_t *at) { return at[0] | (unsigned)at[1] << 8; }
+
+/* Stores such a number at a place, and answers the place after it. */
+uint8_t *put16(uint8_t *at, unsigned x);
+
+/* Writes the claim file of a day. */
+void write_day(const struct day *d, struct file *f);
+
+/* Reads a claim file: 0 and the day, or document 01's number of the first fault. */
+unsigned read_day(const uint8_t *file, size_t length, struct day *d);
+
+/* ---- Days, made and drawn ---- */
+
+/* A day whose groups are all at the top, with one limit a side and no row yet. */
+struct day flat_day(unsigned cards, unsigned card_limit, unsigned shops, unsigned shop_limit);
+
+/* One row more, after the others. */
+void add_row(struct day *d, unsigned card, unsigned shop, unsigned kind);
+
+/*
+ * A stream of numbers that look drawn at random and are the same at every run: the seed decides them all. `below(n)` is the next of
+ * them, at least 0 and less than n.
+ */
+void start_numbers(uint64_t seed);
+unsigned below(unsigned n);
+
+/* The groups of a side as chains of equal length, so many of them. Every group hangs under an earlier one, or is at the top. */
+void hang_chains(struct day *d, unsigned side, unsigned chains);
+
+/*
+ * The groups of a side as a forest: of 8 groups `chained` hang under the group just before them; of the others one in `tops` is at the
+ * top, and each other one hangs under any earlier group.
+ */
+void hang_forest(struct day *d, unsigned side, unsigned chained, unsigned tops);
+
+/*
+ * A side of `count` groups: a forest, one in three with long chains, and limits from 1 to `most`. Now and then a limit is the largest
+ * there is, or 0.
+ */
+void draw_side(struct day *d, unsigned side, unsigned count, unsigned most);
+
+/* `count` rows more, of so many kinds; each names any two groups. */
+void draw_rows(struct day *d, unsigned count, unsigned kinds);
+
+/* A day of at most so many groups a side, and at least one, and at most so many rows of the two kinds. */
+struct day random_day(unsigned groups, unsigned rows);
+
+/* ---- Plain answers. A selection, or a choice, has one byte a row: 1 where the row is selected, else 0. ---- */
+
+/* How many selected rows are of the kind `least` or a higher one: with 0 all selected rows, with 1 the earned ones. */
+unsigned count_rows(const struct day *d, const uint8_t *selection, unsigned least);
+
+/*
+ * Whether the selected rows fit a side, or both sides: each of them is counted at the group that it names and at every group above that,
+ * and no group counts more than its limit.
+ */
+int fits_side(const struct day *d, unsigned side, const uint8_t *selection);
+int fits_day(const struct day *d, const uint8_t *selection);
+
+/*
+ * Whether the selected rows fit a side, and how many of them do together at the most: from the last group to the first, what comes to a
+ * group is passed on to its parent, but no more than its limit. What comes to the top is the rank. No row may name the group TOP.
+ */
+struct ranked {
+    unsigned fits, rank;
+};
+struct ranked rank_side(const struct day *d, unsigned side, const uint8_t *selection);
+
+/* The best choice of a day of at most 16 rows or so, by going through all selections, for rows of so many kinds. */
+void search_all(const struct day *d, unsigned kinds, uint8_t *best);
+
+/* What a row of a kind weighs: more than all rows of the lower kinds together. And what the rows of a choice weigh together. */
+uint64_t weight_of(const struct day *d, unsigned kind);
+uint64_t worth_of(const struct day *d, const uint8_t *choice);
+
+/*
+ * Whether a sheet of marks shows that no choice weighs more than this one: no mark is over the weight of the highest kind; the marks of
+ * each row, and of every group that counts it, come to its weight at least; and the total, in which each group's mark counts as many
+ * times as its limit says, is what the chosen rows weigh. The sheet has the marks of the cards, the shops and then the rows.
+ */
+int certified(const struct day *d, unsigned kinds, const uint8_t *choice, const uint32_t *sheet);
+
+/* ---- Cases ---- */
+
+/* Counts a case as passed or failed. What is said of one that failed has the form of printf: %s stands for a word, %u for a number. */
+void expect(int ok, const char *what, ...) __attribute__((format(printf, 2, 3)));
+
+/* Prints how many cases have passed and failed since the last such line. */
+void part_done(const char *name);
+
+/* Prints the closing line, 'N passed, M failed'. Answers the program's exit status: 0 where none failed. */
+int all_done(void);
+
+#ifdef __cplusplus
+}
+#endif
+
+#endif

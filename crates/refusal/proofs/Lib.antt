@@ -1,0 +1,3 @@
+-- The proof of the table of examples.
+pub mod Examples
+pub mod TableLaws

@@ -1,0 +1,23 @@
+-- Laws of document 01's table of refusals.
+--   number-some            no reason has the number 0, which stands for a call that is answered
+use Prim.Native.Nat.{_<_}
+use native.Mathlib.Omega.{arith}
+use Rattle.claimfile.specs.declared.Refusal.{Refusal}
+use Rattle.claimfile.specs.declared.Refusal.the-variants.{CutOff, GroupCount, Parent, ClaimCount, NoSuchGroup, Kind, Trailing}
+use Rattle.refusal.specs.declared.Reason.{Reason}
+use Rattle.refusal.specs.declared.Reason.the-variants.{File, Short, Value}
+use Rattle.refusal.specs.Table.{fileNumber, numberOf}
+
+file-some : (why : Refusal) → 0 < fileNumber why
+file-some CutOff = omega arith
+file-some GroupCount = omega arith
+file-some Parent = omega arith
+file-some ClaimCount = omega arith
+file-some NoSuchGroup = omega arith
+file-some Kind = omega arith
+file-some Trailing = omega arith
+
+pub number-some : (why : Reason) → 0 < numberOf why
+number-some (File why) = file-some why
+number-some Short = omega arith
+number-some Value = omega arith

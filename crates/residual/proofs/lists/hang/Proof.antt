@@ -1,0 +1,66 @@
+-- Two stores: the first item at the node goes into the cell of the new one, and the picked item becomes the first.
+use mathlib.Core.Path.{sym}
+use Rattle.theory.proofs.TestLaws.{pick-most}
+use Rattle.residual.specs.Map.{firsts}
+use Rattle.residual.proofs.MapLaws.{room-keeps, table-small}
+use Rattle.residual.proofs.ListLaws.{hung-of}
+use borrow.Author.Needs.{needs}
+use Rattle.residual.proofs.lists.hang.Statement.{statement}
+use Rattle.residual.proofs.lists.hang.Tie as tie
+use Rattle.residual.proofs.lists.hang.Reads as reads
+use Rattle.residual.proofs.lists.hang.Lts as lts
+use Rattle.residual.proofs.map.first.Reads as first-reads
+use Rattle.residual.proofs.map.set_cell.Reads as set-cell-reads
+use Rattle.residual.proofs.map.set_first.Reads as set-first-reads
+use Rattle.residual.proofs.pick.pick.Reads as pick-reads
+
+first-requires : tie.Need-first-requires
+first-requires c κs = search needs
+
+set-cell-requires : tie.Need-set-cell-requires
+set-cell-requires c κs =
+    let read = c .before in
+    let S = read .before .before .before in (
+      S .pre .0,
+      (
+        S .pre .1 .0 .0,
+        rw (read .first .ensures) (table-small (S .args .sh) (S .args .scratch .now) firsts _ (λ j. read .before .before .slice-known .given j .fits)),
+      ),
+    )
+
+pick-requires : tie.Need-pick-requires
+pick-requires c κs = search needs
+
+set-first-requires : tie.Need-set-first-requires
+set-first-requires c κs =
+    let stored = c .before .before .before .before in
+    let read = stored .before .before in
+    let S = read .before .before .before in (
+      room-keeps (stored .set-cell .ensures .long) (S .pre .0),
+      (
+        S .pre .1 .1 .0,
+        pick-most (S .args .tight) (S .args .j) (read .first .result) (c .before .pick .ensures) (S .pre .1 .1 .1)
+            (rw (read .first .ensures) (table-small (S .args .sh) (S .args .scratch .now) firsts _ (λ j. read .before .before .slice-known .given j .fits))),
+      ),
+    )
+
+same-length : tie.Need-same-length
+same-length c = search needs
+
+returns : tie.Need-returns
+returns c =
+    let picked = c .before .before .before .before in
+    let stored = picked .before .before .before in
+    let read = stored .before .before in
+    hung-of (λ e. read .before .before .before .pre .1 .0 .1 (sym e)) (read .first .ensures) (picked .pick .ensures) (stored .set-cell .ensures) (c .before .before .set-first .ensures)
+
+pub hang-spec : {M : Type 1} → statement M
+hang-spec =
+    tie.close
+    (tie.spec
+    first-requires
+    set-cell-requires
+    pick-requires
+    set-first-requires
+    same-length
+    returns)

@@ -1,0 +1,3 @@
+-- Laws of decimal digits and of appending.
+pub mod TextLaws
+pub mod BufferLaws
