@@ -1,7 +1,12 @@
-/* Every contestant's answer against ours, and ours against a search through all selections, on a handful of days. */
+/*
+ * Every contestant's answer against ours, and ours against a search through all selections, on a handful of days; and the stack of every
+ * call against its bound.
+ *
+ *   check CALL...    CALL... are the names of the calls that the archive exports
+ */
 #include <string.h>
 #include "measure.h"
-#include "ours.h"
+#include "stack.h"
 
 static void check(int ok, const char *what, const char *who, unsigned family, unsigned rows, unsigned number) {
     expect(ok, "%s: %s: %s, %u claims, day %u", who, what, family_names[family], rows, number);
@@ -75,7 +80,28 @@ static void check_damaged(const struct file *day, unsigned family, unsigned rows
     check(wrong == 0, "another refusal than ours", "plain C", family, rows, number);
 }
 
-int main(void) {
+/* Each call keeps the bound. */
+static void check_stacks(void) {
+    for (unsigned k = 0; k < call_count; k++) {
+        struct depths d = stack_of(&calls[k]);
+        unsigned most = d.on_chains > d.on_days ? d.on_chains : d.on_days;
+        expect(most <= MOST_STACK, "%s: a stack of %u bytes, but at most %u are allowed", calls[k].name, most, MOST_STACK);
+    }
+}
+
+static int is_known(const char *name) {
+    for (unsigned k = 0; k < call_count; k++)
+        if (strcmp(calls[k].name, name) == 0) return 1;
+    return 0;
+}
+
+/* The table of calls has every exported call. */
+static void check_calls(unsigned count, char **names) {
+    expect(count >= call_count, "%u calls are named, of %u", count, call_count);
+    for (unsigned k = 0; k < count; k++) expect(is_known(names[k]), "%s is exported, but not in the table of calls in ours.c", names[k]);
+}
+
+int main(int argc, char **argv) {
     static const unsigned small[] = {2, 4, 6, 8, 10, 12}, large[] = {64, MOST_ROWS};
     struct file day;
     for (unsigned family = 0; family < FAMILIES; family++) {
@@ -94,5 +120,7 @@ int main(void) {
         make_day(family, 64, 0, &day);
         check_damaged(&day, family, 64, 0);
     }
+    check_stacks();
+    check_calls((unsigned)argc - 1, argv + 1);
     return all_done();
 }

@@ -22,3 +22,32 @@ struct plain_rank ours_fits_and_rank(const uint8_t *file, size_t length, const u
     struct claims_fits_and_rank_answer r = claims_fits_and_rank(file, length, selection, selected, side);
     return (struct plain_rank){r.refusal, r.fits, r.rank};
 }
+
+/* ---- every call ---- */
+
+static void make_settle(const struct file *day, const uint8_t *selection) {
+    static uint8_t choice[MOST_ROWS];
+    (void)selection;
+    claims_settle(day->bytes, day->length, choice, MOST_ROWS, sheet, MOST_MARKS, scratch, 8 * MOST_MARKS);
+}
+
+static void make_fits_and_rank(const struct file *day, const uint8_t *selection) {
+    for (unsigned side = 0; side < 2; side++) claims_fits_and_rank(day->bytes, day->length, selection, MOST_ROWS, side);
+}
+
+static void make_one_more(const struct file *day, const uint8_t *selection) {
+    for (unsigned row = 0; row < MOST_ROWS; row++) claims_one_more(day->bytes, day->length, selection, MOST_ROWS, row);
+}
+
+static void make_version(const struct file *day, const uint8_t *selection) {
+    (void)day, (void)selection;
+    claims_version();
+}
+
+const struct call calls[] = {
+    {"claims_settle", make_settle},
+    {"claims_fits_and_rank", make_fits_and_rank},
+    {"claims_one_more", make_one_more},
+    {"claims_version", make_version},
+};
+const unsigned call_count = sizeof calls / sizeof *calls;

@@ -12,4 +12,15 @@ unsigned ours_judge(const uint8_t *file, size_t length);
 
 struct plain_rank ours_fits_and_rank(const uint8_t *file, size_t length, const uint8_t *selection, size_t selected, unsigned side);
 
+/*
+ * Every call that the library exports: its name, and a function that makes it on a day with a selection, for each side or each row where
+ * the call is told one. The archive's names are compared with this table; a new call is a line in it.
+ */
+struct call {
+    const char *name;
+    void (*make)(const struct file *day, const uint8_t *selection);
+};
+extern const struct call calls[];
+extern const unsigned call_count;
+
 #endif

@@ -40,38 +40,21 @@ static unsigned judge_selection(const struct day *d, const uint8_t *selection, s
     return side > 1 ? 9 : 0;
 }
 
-/* The day, where the file is accepted and the selection and the side are as they must be; else the number of the first fault. */
-static unsigned read_and_judge(const uint8_t *file, size_t length, const uint8_t *selection, size_t selected, unsigned side, struct day *d) {
-    unsigned fault = read_day(file, length, d);
-    return fault ? fault : judge_selection(d, selection, selected, side);
-}
-
-struct plain_rank plain_fits_and_rank(const uint8_t *file, size_t length, const uint8_t *selection, size_t selected, unsigned side) {
+/* The rank by one of the ways of day.h, where nothing is to be refused. */
+static struct plain_rank judged_rank(const uint8_t *file, size_t length, const uint8_t *selection, size_t selected, unsigned side,
+                                     struct ranked (*way)(const struct day *, unsigned, const uint8_t *)) {
     struct day d;
-    unsigned fault = read_and_judge(file, length, selection, selected, side, &d);
+    unsigned fault = read_day(file, length, &d);
+    if (!fault) fault = judge_selection(&d, selection, selected, side);
     if (fault) return (struct plain_rank){fault, 0, 0};
-    struct ranked r = rank_side(&d, side, selection);
+    struct ranked r = way(&d, side, selection);
     return (struct plain_rank){0, r.fits, r.rank};
 }
 
-/* Takes a place in each group from g up, where each has one. */
-static unsigned take(uint16_t *places, const uint16_t *parent, unsigned g) {
-    for (unsigned v = g; v != TOP; v = parent[v])
-        if (places[v] == 0) return 0;
-    for (unsigned v = g; v != TOP; v = parent[v]) places[v]--;
-    return 1;
+struct plain_rank plain_fits_and_rank(const uint8_t *file, size_t length, const uint8_t *selection, size_t selected, unsigned side) {
+    return judged_rank(file, length, selection, selected, side, rank_side);
 }
 
 struct plain_rank greedy_fits_and_rank(const uint8_t *file, size_t length, const uint8_t *selection, size_t selected, unsigned side) {
-    struct day d;
-    unsigned fault = read_and_judge(file, length, selection, selected, side, &d);
-    if (fault) return (struct plain_rank){fault, 0, 0};
-    struct plain_rank r = {0, 1, 0};
-    for (unsigned c = 0; c < d.rows; c++) {
-        if (!selection[c]) continue;
-        unsigned taken = take(d.limit[side], d.parent[side], d.group[side][c]);
-        r.rank += taken;
-        r.fits &= taken;
-    }
-    return r;
+    return judged_rank(file, length, selection, selected, side, rank_greedily);
 }

@@ -14,7 +14,7 @@ unsigned plain_judge(const uint8_t *file, size_t length);
 /* Whether a selection fits a side, and its rank there, by rank_side of day.h. */
 struct plain_rank plain_fits_and_rank(const uint8_t *file, size_t length, const uint8_t *selection, size_t selected, unsigned side);
 
-/* The same by the greedy method: each selected row in order, where every group on its way up has a place. */
+/* The same by rank_greedily of day.h. */
 struct plain_rank greedy_fits_and_rank(const uint8_t *file, size_t length, const uint8_t *selection, size_t selected, unsigned side);
 
 #endif

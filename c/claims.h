@@ -1,8 +1,12 @@
 /*
- * A day of bread claims: the calls for the till's own program.
+ * A day of bread claims: the calls for the till's own program. c/example.c is a whole program that uses them.
  *
- * Link with libtill.a, for x86-64 Linux. The calls keep no state. Only claims_settle changes memory that is lent to it, and only where
- * it answers no refusal. Calls may be made from several threads at once, where what they are lent to change is not shared.
+ * Link with libtill.a. It is built for Linux (ELF, System V calling convention) on x86-64, any such processor, and may be linked at any
+ * address. Of the C library it needs memset and memcpy at most. It has no variables of its own and uses no heap; docs/PERFORMANCE.md says
+ * how much code it has and how much stack it takes.
+ *
+ * The calls keep no state. Only claims_settle changes memory that is lent to it, and only where it answers no refusal. Calls may be made
+ * from several threads at once, where what they are lent to change is not shared.
  *
  * A pointer must not be null, even where the length beside it is 0, and as many elements must stand there as the length says. Buffers
  * that are lent to one call do not overlap.
@@ -16,6 +20,32 @@
 #ifdef __cplusplus
 extern "C" {
 #endif
+
+/*
+ * The version: which library this header describes. It rises by one with each release that changes a call, a needed length or an answer.
+ * claims_version() tells the version of the library that a program is linked with.
+ */
+#define CLAIMS_VERSION 1u
+
+/* The most that a file may hold. */
+#define CLAIMS_MOST_GROUPS 256u   /* in one section, card groups or shop groups */
+#define CLAIMS_MOST_CLAIMS 512u   /* rows */
+#define CLAIMS_LONGEST_FILE 4614u /* bytes: all three sections are full */
+
+/*
+ * The lengths that a call needs, counted in elements: bytes of a selection and of the choice, numbers of 32 bits of the sheet and of the
+ * scratch. `claims` is the file's number of claims, and `groups` that of its card groups and shop groups together.
+ */
+#define CLAIMS_SELECTION_LENGTH(claims) (claims)
+#define CLAIMS_CHOICE_LENGTH(claims) (claims)
+#define CLAIMS_SHEET_LENGTH(groups, claims) ((groups) + (claims))
+#define CLAIMS_SCRATCH_LENGTH(groups, claims) (8u * ((groups) + (claims)))
+
+/* The same at most: buffers of these lengths serve every file. */
+#define CLAIMS_LONGEST_SELECTION 512u
+#define CLAIMS_LONGEST_CHOICE 512u
+#define CLAIMS_LONGEST_SHEET 1024u
+#define CLAIMS_LONGEST_SCRATCH 8192u
 
 /* The two sides of a day. */
 #define CLAIMS_CARD 0u
@@ -56,6 +86,9 @@ struct claims_settle_answer {
     uint64_t total;   /* the sheet's total, which is the weight of the kept rows */
 };
 
+/* The version of the library. Where it is not CLAIMS_VERSION, this header describes another one. */
+uint32_t claims_version(void);
+
 /*
  * Whether a selection of a file's rows fits a side, and its rank there.
  *
@@ -89,8 +122,6 @@ struct claims_one_more_answer claims_one_more(
  * choice, choice_length     N bytes at least: afterwards 1 for each kept row and 0 for each other row
  * sheet, sheet_length       G + N numbers at least: afterwards the marks, of the card groups, the shop groups and the claims
  * scratch, scratch_length   8 * (G + N) numbers at least: afterwards zero
- *
- * A length counts elements: bytes of the choice, numbers of 32 bits of the sheet and of the scratch.
  */
 struct claims_settle_answer claims_settle(
     const uint8_t *file, size_t file_length,

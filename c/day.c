@@ -87,6 +87,13 @@ void add_row(struct day *d, unsigned card, unsigned shop, unsigned kind) {
     d->kind[d->rows++] = (uint8_t)kind;
 }
 
+struct day chain_day(unsigned limit) {
+    struct day d = flat_day(MOST_GROUPS, limit, MOST_GROUPS, limit);
+    for (unsigned side = 0; side < 2; side++) hang_chains(&d, side, 1);
+    while (d.rows < MOST_ROWS) add_row(&d, MOST_GROUPS - 1, MOST_GROUPS - 1, d.rows % 2);
+    return d;
+}
+
 static uint64_t state;
 
 void start_numbers(uint64_t seed) { state = seed; }
@@ -174,6 +181,46 @@ struct ranked rank_side(const struct day *d, unsigned side, const uint8_t *selec
     return r;
 }
 
+/* Takes a place in each group from g up, where each has one left. */
+static unsigned take_places(uint16_t *places, const uint16_t *parent, unsigned g) {
+    for (unsigned v = g; v != TOP; v = parent[v])
+        if (places[v] == 0) return 0;
+    for (unsigned v = g; v != TOP; v = parent[v]) places[v]--;
+    return 1;
+}
+
+struct ranked rank_greedily(const struct day *d, unsigned side, const uint8_t *selection) {
+    uint16_t places[MOST_GROUPS];
+    struct ranked r = {1, 0};
+    memcpy(places, d->limit[side], d->groups[side] * sizeof *places);
+    for (unsigned c = 0; c < d->rows; c++) {
+        if (!selection[c]) continue;
+        unsigned taken = take_places(places, d->parent[side], d->group[side][c]);
+        r.rank += taken;
+        r.fits &= taken;
+    }
+    return r;
+}
+
+/* The rows of a set, one a bit: row 0 is the lowest bit. */
+static void set_of(unsigned bits, unsigned rows, uint8_t *set) {
+    for (unsigned c = 0; c < rows; c++) set[c] = bits >> c & 1;
+}
+
+struct ranked rank_by_search(const struct day *d, unsigned side, const uint8_t *selection) {
+    uint8_t set[32]; /* one cell for each bit of a number */
+    unsigned selected = 0;
+    struct ranked r = {(unsigned)fits_side(d, side, selection), 0};
+    for (unsigned c = 0; c < d->rows; c++) selected |= (unsigned)selection[c] << c;
+    for (unsigned bits = 0; bits < 1u << d->rows; bits++) {
+        if (bits & ~selected) continue; /* no subset */
+        set_of(bits, d->rows, set);
+        unsigned count = count_rows(d, set, 0);
+        if (count > r.rank && fits_side(d, side, set)) r.rank = count;
+    }
+    return r;
+}
+
 /* Whether a selection has more rows of the highest kind in which it differs from another, or else the first row in which it differs. */
 static int is_better(const struct day *d, unsigned kinds, const uint8_t *one, const uint8_t *other) {
     for (unsigned kind = kinds; kind-- > 0;) {
@@ -191,7 +238,7 @@ void search_all(const struct day *d, unsigned kinds, uint8_t *best) {
     uint8_t set[32]; /* one cell for each bit of a number */
     memset(best, 0, d->rows);
     for (unsigned bits = 0; bits < 1u << d->rows; bits++) {
-        for (unsigned c = 0; c < d->rows; c++) set[c] = bits >> c & 1;
+        set_of(bits, d->rows, set);
         if (is_better(d, kinds, set, best) && fits_day(d, set)) memcpy(best, set, d->rows);
     }
 }

@@ -73,6 +73,9 @@ struct day flat_day(unsigned cards, unsigned card_limit, unsigned shops, unsigne
 /* One row more, after the others. */
 void add_row(struct day *d, unsigned card, unsigned shop, unsigned kind);
 
+/* A day of the most groups a side in one chain, each with this limit, and of the most rows, all at its end; every other row is earned. */
+struct day chain_day(unsigned limit);
+
 /*
  * A stream of numbers that look drawn at random and are the same at every run: the seed decides them all. `below(n)` is the next of
  * them, at least 0 and less than n.
@@ -114,13 +117,20 @@ int fits_side(const struct day *d, unsigned side, const uint8_t *selection);
 int fits_day(const struct day *d, const uint8_t *selection);
 
 /*
- * Whether the selected rows fit a side, and how many of them do together at the most: from the last group to the first, what comes to a
- * group is passed on to its parent, but no more than its limit. What comes to the top is the rank. No row may name the group TOP.
+ * Whether the selected rows fit a side, and how many of them do together at the most, which is their rank: found in three ways.
+ *
+ * `rank_side`      from the last group to the first, what comes to a group is passed on to its parent, but no more than its limit. What
+ *                  comes to the top is the rank. No row may name the group TOP.
+ * `rank_greedily`  the selected rows in order: a row is kept where the group that it names, and every group above that, has a place left
+ *                  beside the rows kept before it. The kept rows are the rank.
+ * `rank_by_search` the largest of all subsets of the selected rows that fit the side, for a day of at most 16 rows or so.
  */
 struct ranked {
     unsigned fits, rank;
 };
 struct ranked rank_side(const struct day *d, unsigned side, const uint8_t *selection);
+struct ranked rank_greedily(const struct day *d, unsigned side, const uint8_t *selection);
+struct ranked rank_by_search(const struct day *d, unsigned side, const uint8_t *selection);
 
 /* The best choice of a day of at most 16 rows or so, by going through all selections, for rows of so many kinds. */
 void search_all(const struct day *d, unsigned kinds, uint8_t *best);

@@ -1,6 +1,7 @@
 /*
  * Tests of claims_fits_and_rank and claims_one_more: the refusals, worked days, and random days against the plain answers of day.h.
- * There the rank is found from the last group to the first, and a file is read by a plain reader.
+ * There a file is read by a plain reader, and the rank is found in three ways: from the last group to the first, as the library does;
+ * greedily; and, on small days, by going through all subsets of the selected rows.
  */
 #include <string.h>
 #include "claims.h"
@@ -136,13 +137,27 @@ static void draw_selection(unsigned rows, unsigned some) {
     for (unsigned c = 0; c < sizeof selected; c++) selected[c] = (uint8_t)(c < rows ? below(8) < some : below(UINT8_MAX + 1));
 }
 
+/* The rows of a day on which the rank is searched for among all subsets of the selected rows, at most. */
+enum { SMALL_ROWS = 12 };
+
+/* What fits and rank told must be what one of the plain ways found. */
+static void told_as(const char *way, struct claims_fits_and_rank_answer told, struct ranked found) {
+    expect(told.refusal == 0 && told.fits == found.fits && told.rank == found.rank,
+           "refusal %u, fits %u, rank %u, but %s: fits %u, rank %u", told.refusal, told.fits, told.rank, way, found.fits, found.rank);
+}
+
 /* The answers for a day and the selection must be the plain ones. The selection is lent with `extra` bytes more than rows. */
 static void against_plain(const struct day *d, unsigned extra) {
     static struct file f;
     write_day(d, &f);
     struct bytes file = {f.bytes, f.length}, selection = {selected, d->rows + extra};
-    for (unsigned side = 0; side < 2; side++)
-        ranked("a plain rank", file, selection, side, 0, fits_side(d, side, selected), rank_side(d, side, selected).rank);
+    for (unsigned side = 0; side < 2; side++) {
+        struct claims_fits_and_rank_answer told = fits_and_rank(file, selection, side);
+        equal("fits, by counting", told.fits, (unsigned)fits_side(d, side, selected));
+        told_as("from the last group to the first", told, rank_side(d, side, selected));
+        told_as("greedily", told, rank_greedily(d, side, selected));
+        if (d->rows <= SMALL_ROWS) told_as("by search", told, rank_by_search(d, side, selected));
+    }
     if (d->rows == 0) {
         more("one more where there is no row", file, selection, 0, CLAIMS_VALUE, 0);
         return;
@@ -155,11 +170,41 @@ static void against_plain(const struct day *d, unsigned extra) {
     more("a plain one more", file, selection, row, 0, with);
 }
 
+/* Some selections of a day: among them few rows, or many, or all. */
+static void some_selections(const struct day *d, unsigned selections) {
+    for (; selections > 0; selections--) {
+        draw_selection(d->rows, below(9));
+        against_plain(d, below(3));
+    }
+}
+
 static void random_days(const char *name, unsigned days, unsigned groups, unsigned rows) {
     for (unsigned i = 0; i < days; i++) {
         struct day d = random_day(groups, rows);
-        draw_selection(d.rows, below(9));
-        against_plain(&d, below(3));
+        some_selections(&d, 4);
+    }
+    part_done(name);
+}
+
+/* The most groups and the most rows. */
+static void full_days(const char *name, unsigned days) {
+    for (unsigned i = 0; i < days; i++) {
+        struct day d = {0};
+        for (unsigned side = 0; side < 2; side++) draw_side(&d, side, MOST_GROUPS, 1 + below(1u << below(8)));
+        draw_rows(&d, MOST_ROWS, 2);
+        some_selections(&d, 4);
+    }
+    part_done(name);
+}
+
+/* Every selection of a day of few rows. */
+static void all_selections(const char *name, unsigned days) {
+    for (unsigned i = 0; i < days; i++) {
+        struct day d = random_day(6, 6);
+        for (unsigned bits = 0; bits < 1u << d.rows; bits++) {
+            for (unsigned c = 0; c < d.rows; c++) selected[c] = bits >> c & 1;
+            against_plain(&d, 0);
+        }
     }
     part_done(name);
 }
@@ -178,17 +223,16 @@ static void grown_selections(const char *name, unsigned days) {
     part_done(name);
 }
 
-/* One chain of the most groups, all rows at its end, and one group after another the only one with a limit. */
+/* One chain of the most groups, all rows at its end, and one group after another the only one with a limit. The first rows are selected. */
 static void deep_chains(void) {
+    static const unsigned counts[] = {0, 299, 300, 301, 302, MOST_ROWS};
     for (unsigned g = 0; g < MOST_GROUPS; g += 51) {
-        struct day d = flat_day(MOST_GROUPS, TOP, MOST_GROUPS, TOP);
-        for (unsigned side = 0; side < 2; side++) {
-            hang_chains(&d, side, 1);
-            d.limit[side][g] = (uint16_t)(300 + side);
+        struct day d = chain_day(TOP);
+        for (unsigned side = 0; side < 2; side++) d.limit[side][g] = (uint16_t)(300 + side);
+        for (unsigned k = 0; k < sizeof counts / sizeof *counts; k++) {
+            for (unsigned c = 0; c < MOST_ROWS; c++) selected[c] = c < counts[k];
+            against_plain(&d, 0);
         }
-        while (d.rows < MOST_ROWS) add_row(&d, MOST_GROUPS - 1, MOST_GROUPS - 1, 0);
-        draw_selection(MOST_ROWS, 8);
-        against_plain(&d, 0);
     }
     part_done("deep chains");
 }
@@ -216,9 +260,11 @@ int main(void) {
     refusals();
     worked_days();
     lengths();
-    random_days("random small days", 600, 6, 10);
+    all_selections("all selections of tiny days", 200);
+    random_days("random small days", 2000, 8, SMALL_ROWS);
     random_days("random days", 350, 40, 120);
     random_days("random large days", 50, MOST_GROUPS, MOST_ROWS);
+    full_days("full days", 100);
     grown_selections("grown selections", 300);
     deep_chains();
     broken_files("broken files", 1000);

@@ -184,7 +184,7 @@ static void changed(uint32_t *cell, uint32_t x, const char *what) {
     struct day d = sound();
     fill_tables(&d);
     *cell = x;
-    expect(solve(&d, 2, 0) == 1 && untouched(0, 0, cells(&d)), "%s", what);
+    expect(solve(&d, 2, 0) == 1 && untouched(0, 0, 0), "%s", what);
 }
 
 static void ill_formed(void) {
@@ -229,7 +229,7 @@ static void lengths(void) {
             have[one] -= (size_t)by;
         }
     fill_tables(&d);
-    expect(solve_in(7, top, have) == 1 && untouched(0, 0, cells(&d)), "more card groups than groups");
+    expect(solve_in(7, top, have) == 1 && untouched(0, 0, 0), "more card groups than groups");
     fill_tables(&d);
     expect(solve_in(cards, HIGHEST + 1, have) == 1 && untouched(0, 0, 0), "a top past the highest");
     expect(solve_in(cards, HIGHEST, have) == 0, "the highest top");

@@ -18,7 +18,8 @@ use borrow.Author.Tests.{lt-ltb, lt-leb, le-leb}
 use Rattle.theory.specs.Bounds.{maxGroups, maxRows}
 use Rattle.claimfile.specs.File.{top, groupWidth, claimWidth, word, groupAt, claimAt, groupFault, claimFault, recordsFrom}
 use Rattle.claimfile.specs.File.{groupsFrom, rowsFrom, countFault, sectionOf, sectionBy, sectionAt, claimsAt, reading}
-use Rattle.claimfile.specs.Day.{countOf, groupOf, SmallerOrTop, Sound}
+use Rattle.claimfile.specs.Day.{countOf, groupOf}
+use Rattle.claimfile.specs.Sound.{SmallerOrTop, Sound}
 use Rattle.claimfile.specs.declared.Refusal.{Refusal}
 use Rattle.claimfile.specs.declared.Refusal.the-variants.{GroupCount, ClaimCount, NoSuchGroup, Kind}
 use Rattle.claimfile.specs.declared.Checked.{Checked}

@@ -17,10 +17,11 @@ use native.Mathlib.Omega.{arith}
 use lib.ListN.{length, getD}
 use borrow.Author.Tests.{lt-ltb, le-ltb}
 use Rattle.theory.specs.Bounds.{maxGroups}
-use Rattle.theory.specs.Network.{Formed}
+use Rattle.theory.specs.Formed.{Formed}
 use Rattle.claimfile.specs.File.{groupWidth, word}
 use Rattle.claimfile.specs.Day.{startOf, countOf, groupOf, claimOf, groupsOf, firstOf, rootOf, above, upOf}
-use Rattle.claimfile.specs.Day.{parentOf, limitOf, cardNode, shopNode, networkOf, Sound}
+use Rattle.claimfile.specs.Day.{parentOf, limitOf, cardNode, shopNode, networkOf}
+use Rattle.claimfile.specs.Sound.{Sound}
 use Rattle.claimfile.specs.declared.Layout.{Layout}
 
 pub start-shop : (l : Layout) (side : ℕ) → side ≢ 0 → startOf l side ≡ l .«shop_at»

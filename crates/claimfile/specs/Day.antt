@@ -13,22 +13,17 @@
 --   parentOf, limitOf      a group's parent and limit, by its node
 --   cardNode, shopNode     where a row hangs on each side
 --   networkOf, instanceOf  all of these together
---   SmallerOrTop own parent    a group with its own number may have that parent
---   Sound s l              what holds of every accepted file s with layout l
 -- The group that a row names and the node where it hangs are two things; so are a record's limit and the meaning of a limit.
-use Prim.Native.Nat.{ℕ, zero, suc, _+_, _*_, _-_, _<_, _≤_}
-use mathlib.Core.Path.{_≡_}
-use mathlib.Core.Logic.{_⊎_}
+use Prim.Native.Nat.{ℕ, zero, suc, _+_, _-_}
 use mathlib.Core.List.{List}
-use lib.ListN.{length, drop}
+use lib.ListN.{drop}
 use lib.Dec.{ltb}
-use Rattle.theory.specs.Bounds.{maxGroups, maxRows}
 use Rattle.theory.specs.Sum.{pick}
 use Rattle.theory.specs.Network.{Network, Instance}
 use Rattle.claimfile.specs.declared.Layout.{Layout}
 use Rattle.claimfile.specs.declared.Group.{Group}
 use Rattle.claimfile.specs.declared.Claim.{Claim}
-use Rattle.claimfile.specs.File.{top, groupWidth, claimWidth, groupAt, claimAt}
+use Rattle.claimfile.specs.File.{groupAt, claimAt}
 
 abbrev pub startOf : Layout → ℕ → ℕ
 startOf l zero = l .«card_at»
@@ -103,23 +98,3 @@ networkOf s l = record {
 
 abbrev pub instanceOf : List ℕ → Layout → Instance
 instanceOf s l = record { net = networkOf s l; limit = limitOf s l; kind = kindOf s l }
-
---------------------------------------------------------------------------------
--- An accepted file
-
--- "A parent is a smaller group number of that section, or 65535 for a group at the top."
-abbrev pub SmallerOrTop : ℕ → ℕ → Type 0
-SmallerOrTop own parent = (parent < own) ⊎ (parent ≡ top)
-
-pub record Sound (s : List ℕ) (l : Layout) : Type 0 where
-  pub card-place : l .«card_at» ≡ 2
-  pub shop-place : l .«shop_at» ≡ 4 + groupWidth * l .cards
-  pub row-place : l .«row_at» ≡ 6 + groupWidth * (l .cards + l .shops)
-  pub size : length s ≡ 6 + groupWidth * l .cards + groupWidth * l .shops + claimWidth * l .rows
-  pub cards-most : l .cards ≤ maxGroups
-  pub shops-most : l .shops ≤ maxGroups
-  pub rows-most : l .rows ≤ maxRows
-  pub parents : (side g : ℕ) → g < countOf l side → SmallerOrTop g (groupOf s l side g .parent)
-  pub row-cards : (c : ℕ) → c < l .rows → namedCard s l c < l .cards
-  pub row-shops : (c : ℕ) → c < l .rows → namedShop s l c < l .shops
-  pub row-kinds : (c : ℕ) → c < l .rows → kindOf s l c ≤ 1

@@ -11,7 +11,7 @@ use claimfile::group_of;
 use claimfile::groups_on;
 use claimfile::read;
 use refusal::Reason;
-ghost use Rattle.claimfile.specs.Day.{Sound};
+ghost use Rattle.claimfile.specs.Sound.{Sound};
 
 fn group(name: &[u8], g: usize, record: Group) {
     text(name);

@@ -11,8 +11,8 @@
 --   most-rows              with as many earned rows, none has more rows than are answered
 --   first-rows             with as many of both, Y is the kept choice, or the lowest row that only one of them holds is kept
 --   only-choice            a choice with all these properties is the kept choice
---   best-earned best-rows best-total   the file alone decides what is answered
---   total-worth total-counts   the total answered, the sheet's total, is the weight of the kept rows: N * earned + kept
+--   total-counts           the total answered, the sheet's total, is the weight of the kept rows: N * earned + kept
+-- That the file alone decides what is answered is the field `told`, and `best-earned`, `best-rows`, `best-total` (AnswerLaws).
 --   sheet-bounds           no Y weighs more than the total that is answered
 --   covered                every claim is covered
 use mathlib.Core.Path.{_≡_, refl, ap, _∙_, subst}
@@ -25,9 +25,11 @@ use lib.ListN.{length}
 use borrow.Author.Tests.{lt-ltb, le-ltb}
 use Rattle.theory.specs.Incidence.{Covers, size, worth}
 use Rattle.theory.specs.Matroid.{row}
-use Rattle.theory.specs.Network.{Network, Instance, Formed, FitsBoth, Choice, onBoth}
+use Rattle.theory.specs.Network.{Network, Instance, FitsBoth, Choice, onBoth}
+use Rattle.theory.specs.Formed.{Formed}
 use Rattle.theory.specs.Priority.{kept, weightOf}
-use Rattle.theory.specs.Best.{First, Agree, Kept, bestChoice}
+use Rattle.theory.specs.Best.{First, Agree, Kept}
+use Rattle.theory.specs.Search.{bestChoice}
 use Rattle.theory.proofs.SumLaws.{sum-cong}
 use Rattle.theory.proofs.FirstLaws.{agree-sym, agree-trans}
 use Rattle.theory.proofs.BestLaws.{kept-agree}
@@ -43,7 +45,8 @@ use Rattle.refusal.specs.declared.Reason.the-variants.{File, Short}
 use Rattle.closing.specs.declared.Totals.{Totals}
 use Rattle.closing.specs.declared.Settled.{Settled}
 use Rattle.closing.specs.declared.Settled.the-variants.{Closed, Refused}
-use Rattle.closing.specs.Settle.{numberOf, numberFor, needed, Enough, Lacks, markOf, claimMarkOf, Closes, SettlesOn, Settles}
+use Rattle.closing.specs.Settle.{Told, toldBy, toldFor, needed, Enough, Lacks, markOf, claimMarkOf, Closes, SettlesOn, Settles}
+use Rattle.closing.proofs.AnswerLaws.{total-worth}
 use Rattle.closing.proofs.CountLaws.{two-worth}
 
 --------------------------------------------------------------------------------
@@ -104,32 +107,10 @@ module _
     pub closed-day : ClosedDay s ch sheet t ch′ sheet′ t′ a
     closed-day = judged (reading s) refl
 
-module _ (s ch sheet t ch′ sheet′ t′ : List ℕ) (r : Settled) (S : Settles s ch sheet t ch′ sheet′ t′ r) where
-  number-of : (x : Reading) → reading s ≡ x → numberOf r ≡ numberFor s x ch sheet t
-  number-of (reading-is.Refused why) p = ap numberOf (S .refused why p .0)
-  number-of (reading-is.Accepted l) p =
-      let D = S .settled l p in
-      elim (decLt (length ch) (l .rows)) [
-        | yes h ↦ rw (lt-ltb _ _ h) (ap numberOf (D .short (inl h) .0))
-        | no a ↦
-            let choices : l .rows ≤ length ch = omega arith in
-            elim (decLt (length sheet) (needed (networkOf s l))) [
-              | yes h ↦ rw (le-ltb _ _ choices, lt-ltb _ _ h) (ap numberOf (D .short (inr (inl h)) .0))
-              | no b ↦
-                  let sheets : needed (networkOf s l) ≤ length sheet = omega arith in
-                  elim (decLt (length t) (8 * needed (networkOf s l))) [
-                    | yes h ↦
-                        rw (le-ltb _ _ choices, le-ltb _ _ sheets, lt-ltb _ _ h) (ap numberOf (D .short (inr (inr h)) .0))
-                    | no c ↦
-                        let cells : 8 * needed (networkOf s l) ≤ length t = omega arith in
-                        rw (le-ltb _ _ choices, le-ltb _ _ sheets, le-ltb _ _ cells)
-                        (ap numberOf (D .closed (record { choices = choices; sheets = sheets; cells = cells }) .1))
-                  ]
-            ]
-      ]
-
-  pub number-told : numberOf r ≡ numberFor s (reading s) ch sheet t
-  number-told = number-of (reading s) refl
+pub number-told :
+    (s ch sheet t ch′ sheet′ t′ : List ℕ) (r : Settled) → Settles s ch sheet t ch′ sheet′ t′ r →
+    toldBy r .number ≡ toldFor s (reading s) ch sheet t .number
+number-told s ch sheet t ch′ sheet′ t′ r S = ap (λ (x : Told). x .number) (S .told)
 
 --------------------------------------------------------------------------------
 -- A closed file
@@ -139,7 +120,7 @@ module _
     (ch sheet t ch′ sheet′ t′ : List ℕ) (a : Totals) (C : Closes i ch sheet t ch′ sheet′ t′ a)
   where
     pub kept-choice : Kept (i .net .rows) (i .kind) (FitsBoth (i .net) (i .limit)) (row ch′)
-    kept-choice = choice.choice-kept (i .net) (i .limit) (i .kind) two (C .best)
+    kept-choice = C .choice
 
     pub choice-fits : Choice (i .net) (i .limit) (row ch′)
     choice-fits = record { bits = kept-choice .bits; fits = kept-choice .fits }
@@ -150,28 +131,11 @@ module _
         agree-trans (i .net .rows) (choice.kept-choice (i .net) (i .limit) (i .kind) two k)
         (agree-sym (i .net .rows) (C .best))
 
-    pub best-earned :
-        a .earned
-        ≡ kept (i .net .rows) (i .kind) (row (bestChoice (i .net) (i .limit) 2 (i .kind))) 1
-    best-earned = C .earned ∙ ap (λ f. f 1) (kept-agree (i .net .rows) (i .kind) (C .best))
-
-    pub best-rows : a .kept ≡ size (i .net .rows) (row (bestChoice (i .net) (i .limit) 2 (i .kind)))
-    best-rows = C .kept ∙ sum-cong (i .net .rows) (C .best)
-
-    pub total-worth : a .total ≡ worth (i .net .rows) (weightOf (i .net .rows) (i .kind)) (row ch′)
-    total-worth = C .total ∙ C .certified .equal
-
-    pub best-total :
-        a .total
-        ≡ worth (i .net .rows) (weightOf (i .net .rows) (i .kind)) (row (bestChoice (i .net) (i .limit) 2 (i .kind)))
-    best-total =
-        total-worth ∙ sum-cong (i .net .rows) (λ c h. ap (λ (x : ℕ). x * weightOf (i .net .rows) (i .kind) c) (C .best c h))
-
     pub total-counts : a .total ≡ i .net .rows * a .earned + a .kept
     total-counts =
         omega (
           arith,
-          total-worth,
+          total-worth i ch sheet t ch′ sheet′ t′ a C,
           two-worth (i .net .rows) (i .kind) two (row ch′),
           ap (λ (n : ℕ). i .net .rows * n) (C .earned),
           C .kept,
@@ -190,7 +154,7 @@ module _
       sheet-bounds =
           omega (
             arith,
-            total-worth,
+            total-worth i ch sheet t ch′ sheet′ t′ a C,
             certified-heaviest (i .net) formed (i .limit) (weightOf (i .net .rows) (i .kind))
                 (i .net .rows + 1) (row ch′) (markOf sheet′) (claimMarkOf (i .net) sheet′) (C .certified) Y fits,
           )

@@ -14,7 +14,8 @@ use native.Mathlib.Omega.{arith}
 use lib.ListN.{length, getD}
 use Rattle.theory.specs.Sum.{sum}
 use Rattle.theory.specs.Incidence.{Selection}
-use Rattle.theory.specs.Network.{Formed, Choice}
+use Rattle.theory.specs.Network.{Choice}
+use Rattle.theory.specs.Formed.{Formed}
 use Rattle.theory.specs.Matroid.{row}
 use Rattle.theory.specs.Priority as priority
 use Rattle.theory.specs.Level.{Ordered}
@@ -24,7 +25,8 @@ use Rattle.theory.proofs.AlikeLaws.{choice-alike, ordered-alike, certified-alik
 use Rattle.theory.proofs.FinishLaws.{certified-best}
 use Rattle.theory.proofs.ChoiceLaws.{choice-only, only-choice}
 use Rattle.claimfile.specs.declared.Layout.{Layout}
-use Rattle.claimfile.specs.Day.{groupsOf, limitOf, kindOf, networkOf, instanceOf, Sound}
+use Rattle.claimfile.specs.Day.{groupsOf, limitOf, kindOf, networkOf, instanceOf}
+use Rattle.claimfile.specs.Sound.{Sound}
 use Rattle.claimfile.proofs.DayLaws.{sound-formed, limit-small}
 use Rattle.residual.specs.declared.Shape.{Shape}
 use Rattle.residual.specs.Map.{cells, spareOf, weightOf, Room}
@@ -32,7 +34,8 @@ use Rattle.residual.specs.View.{netOf}
 use Rattle.tables.specs.Tables.{shapeOf, Tabled, Given, Wrote}
 use Rattle.tables.proofs.TablesLaws.{shape-shaped, tabled-alike, tabled-limit, tabled-formed, tabled-weight}
 use Rattle.solver.specs.Solve.{Tables, Solved}
-use Rattle.closing.specs.Settle.{markOf, claimMarkOf, Settlement, Lent}
+use Rattle.closing.specs.Settle.{markOf, claimMarkOf}
+use Rattle.closing.specs.Close.{Settlement, Lent}
 
 module _ (s : List ℕ) (l : Layout) (sound : Sound s l) where
   pub kinds-two : (c : ℕ) → c < l .rows → kindOf s l c < 2

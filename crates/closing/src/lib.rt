@@ -4,8 +4,10 @@
 ghost use mathlib.Core.Path.{_≡_};
 ghost use Prim.Native.Nat.{_+_, _*_, _≤_, _<_};
 ghost use Rattle.theory.specs.Bounds.{maxGroups, maxRows};
-ghost use Rattle.claimfile.specs.Day.{groupsOf, instanceOf, Sound};
-ghost use Rattle.closing.specs.Settle.{Countable, CountsUpTo, Lent, Settlement, ClosedBy, SettlesOn, Settles};
+ghost use Rattle.claimfile.specs.Day.{groupsOf, instanceOf};
+ghost use Rattle.claimfile.specs.Sound.{Sound};
+ghost use Rattle.closing.specs.Settle.{SettlesOn, Settles};
+ghost use Rattle.closing.specs.Close.{Countable, CountsUpTo, Lent, Settlement, ClosedBy};
 use claimfile::Layout;
 use claimfile::Reading;
 use claimfile::claim_of;

@@ -7,9 +7,10 @@ use Rattle.theory.specs.Sum.{sum, is, same, every}
 use Rattle.theory.specs.Forest.{steps, walk, chain}
 use Rattle.theory.specs.Incidence.{load, fits, charge}
 use Rattle.theory.specs.Network.{onSide, onBoth, fitsBoth}
-use Rattle.theory.specs.Matroid.{selections, greatest, rank}
-use Rattle.theory.specs.Priority.{kept, weightOf, more}
-use Rattle.theory.specs.Best.{nothing, search, best, bestChoice}
+use Rattle.theory.specs.Search.{selections, greatest, rank}
+use Rattle.theory.specs.Priority.{kept, weightOf}
+use Rattle.theory.specs.Search.{more}
+use Rattle.theory.specs.Search.{nothing, search, best, bestChoice}
 use Rattle.claimfile.specs.File.{groupFault, claimFault, recordsFrom, countFault, sectionAt, claimsAt, reading}
 use Rattle.claimfile.specs.Day.{parentOf, limitOf, cardNode, shopNode}
 use Rattle.days.specs.Days.{days}

@@ -1,12 +1,16 @@
 -- What the definitions make of a day, and what the table says of it, in one form to be compared.
 --   fitsOn i side X        the list of rows fits a side (0 card, 1 shop)
 --   answered i q           the question with its answer worked out: whether the selection fits the side, and its rank there
+--   weight i c             the weight of claim c
+--   claimMark i sheet c    the mark of claim c
+--   sheetTotal i sheet     the sheet's total
 --   covered i sheet c      claim c's own mark plus the marks of all groups that it counts in is at least its weight
 --   certified i choice sheet   the sheet has one mark, 0 to N + 1, for each group and each claim, covers every claim, and its
---                          total equals the weight of the choice
+--                          total equals the weight of the choice: `Certified` as a test (`certified-is`)
 --   Outcome                the file is refused, or the day is closed: what settle answers, whether the sheet certifies it, the
 --                          questions with their answers
 --   settled i d            the outcome of an instance: the best choice by a search through all selections
+--   afterReading x d       the outcome of a day whose file has the reading x
 --   worked d               the outcome by the definitions, from the day's bytes, its marks and the questions put to it
 --   stated d               the outcome by the table
 use mathlib.Core.Bool.{Bool, true, _&&_}
@@ -17,9 +21,10 @@ use lib.Dec.{leb, eqb}
 use Rattle.theory.specs.Sum.{every}
 use Rattle.theory.specs.Incidence.{size, fits, charge, total, worth}
 use Rattle.theory.specs.Network.{Instance, onSide, onBoth}
-use Rattle.theory.specs.Matroid.{rank, row}
+use Rattle.theory.specs.Matroid.{row}
+use Rattle.theory.specs.Search.{rank}
 use Rattle.theory.specs.Priority.{kept, weightOf}
-use Rattle.theory.specs.Best.{bestChoice}
+use Rattle.theory.specs.Search.{bestChoice}
 use Rattle.claimfile.specs.File.{reading}
 use Rattle.claimfile.specs.Day.{instanceOf}
 use Rattle.claimfile.specs.declared.Refusal.{Refusal}

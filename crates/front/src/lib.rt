@@ -8,6 +8,7 @@ ghost use mathlib.Core.Path.{_≡_};
 ghost use Prim.Native.Nat.{_+_, _*_};
 ghost use lib.ListN.{length};
 ghost use Rattle.theory.specs.Bounds.{maxGroups, maxRows};
+ghost use Rattle.printout.specs.Printout.{longestText};
 
 // The lengths that the largest day needs.
 const CHOICE: usize = MAX_ROWS;
@@ -34,9 +35,9 @@ fn scratch_buffer() -> [u32; SCRATCH]
     [0; SCRATCH]
 }
 
-// The longest text has 512 lines of at most 18 characters, and two more.
+// Enough for every text: `printed-whole` in printout/proofs/RoomLaws.antt.
 fn text_buffer() -> [u8; 9600]
-    ensures { λ r. ⌜ 9600 ≡ length r ⌝ }
+    ensures { λ r. ⌜ longestText ≡ length r ⌝ }
 {
     [0; 9600]
 }

@@ -1,7 +1,7 @@
 -- Laws of the answers.
 --   told-found told-adds       what the answers of an instance mean
 --   finds                      what is found when the rows have risen
---   with-unfit with-in with-asked      whether a selection with one row more fits a side
+--   with-unfit with-in with-walked      whether a selection with one row more fits a side
 --   adds-card adds-shop        whether it fits both sides
 --   ranked-value ranked-side   the answer of fits and rank for an accepted file, one law a case
 --   more-value more-yes more-no    the same of one more
@@ -11,14 +11,14 @@ use mathlib.Core.Path.{_≡_, refl, sym, ap, ap₂, _∙_, subst}
 use mathlib.Core.List.{List}
 use mathlib.Core.Bool.{Bool, true, false, not, false≢true, true≢false}
 use mathlib.Core.Logic.{inl, inr, _≢_, _↔_}
-use Prim.Native.Nat.{ℕ, _≤_, _<_}
+use Prim.Native.Nat.{ℕ, _≤_, _<_, zero-le}
 use native.Mathlib.Decide.{decLt}
 use native.Mathlib.Omega.{arith}
 use borrow.Author.Tests.{lt-ltb, le-ltb, lt-leb, le-leb, not-true, not-false}
 use Rattle.theory.specs.Bounds.{maxRows}
 use Rattle.theory.specs.Sum.{pick}
 use Rattle.theory.specs.Incidence.{Selection, plus}
-use Rattle.theory.specs.Matroid.{Rank, row}
+use Rattle.theory.specs.Matroid.{Matroid, Rank, row}
 use Rattle.theory.specs.Network.{Instance, onSide, FitsSide, Independent, fitsBoth}
 use Rattle.theory.proofs.SumLaws.{sum-bound}
 use Rattle.theory.proofs.IncidenceLaws.{fits-le, fits-cong, plus-in, plus-within, fits-plus, full-plus}
@@ -33,6 +33,7 @@ use Rattle.claimfile.specs.declared.Reading.the-variants as reading-is
 use Rattle.claimfile.proofs.AcceptedLaws.{accepted-sound}
 use Rattle.refusal.specs.declared.Reason.{Reason}
 use Rattle.refusal.specs.declared.Reason.the-variants.{File, Value}
+use Rattle.refusal.proofs.TableLaws.{number-some}
 use Rattle.limits.specs.declared.Entry.{Entry}
 use Rattle.limits.specs.declared.Entry.the-variants.{Entered, Turned}
 use Rattle.limits.specs.declared.Ranked.{Ranked}
@@ -40,25 +41,33 @@ use Rattle.limits.specs.declared.Ranked.the-variants as ranked-is
 use Rattle.limits.specs.declared.OneMore.{OneMore}
 use Rattle.limits.specs.declared.OneMore.the-variants as one-more-is
 use Rattle.limits.specs.declared.Found.{Found}
-use Rattle.limits.specs.Answers.{fitsOf, foundOn, Told, Finds, FitsMore, addsTo, Adds, entered, Ready}
-use Rattle.limits.specs.Answers.{rankedBy, ranked, oneMoreBy, oneMore, Answered, Added}
-use Rattle.limits.specs.Side.{parentIn, limitIn, hangs, countsIn, Asked, FitsIn, Placed}
+use Rattle.limits.specs.Answers.{fitsOf, foundOn, bit, Told, Finds, FitsMore, addsTo, Adds, entered}
+use Rattle.limits.specs.Ready.{Ready}
+use Rattle.limits.specs.Answers.{rankedBy, ranked, oneMoreBy, oneMore, rankedNumbers, oneMoreNumbers, Answered, Added}
+use Rattle.limits.specs.Side.{parentIn, limitIn, hangs, countsIn, Asked, FitsIn, Placed, Ways, Walked}
 use Rattle.limits.proofs.ChainLaws.{side-down}
-use Rattle.limits.proofs.SideLaws.{side-fits, fits-side, side-rank}
+use Rattle.limits.proofs.SideLaws.{sound-matroid, side-node, side-fits, fits-side, side-rank}
 use Rattle.limits.proofs.EntryLaws.{entered-by, entering}
 
 --------------------------------------------------------------------------------
 -- What the answers of an instance mean
 
+-- 1 stands for yes
+one-yes : (b : Bool) → (bit b ≡ 1) ↔ (b ≡ true)
+one-yes true = (λ e. refl, λ e. refl)
+one-yes false = (λ e. absurd (omega arith), λ e. ap bit e)
+
 module _ (i : Instance) (sel : List ℕ) where
   told-found :
-      (side : ℕ) → Selection (i .net .rows) (row sel) →
-      Told i sel side (foundOn i sel side .fits) (foundOn i sel side .rank)
-  told-found side bits =
+      (side : ℕ) → Matroid (i .net .rows) (Independent (i .net) (i .limit) side) → Selection (i .net .rows) (row sel) →
+      Told i sel side (bit (foundOn i sel side .fits)) (foundOn i sel side .rank)
+  told-found side matroid bits =
+      let yes = one-yes (fitsOf i side (row sel)) in
       record {
+        matroid = matroid;
         fits = (
-          λ e. (bits, fits-true (i .net .rows) (i .net .groups) (onSide (i .net) side) (i .limit) (row sel) e),
-          λ j. true-fits (i .net .rows) (i .net .groups) (onSide (i .net) side) (i .limit) (row sel) (j .1),
+          λ e. (bits, fits-true (i .net .rows) (i .net .groups) (onSide (i .net) side) (i .limit) (row sel) (yes .0 e)),
+          λ j. yes .1 (true-fits (i .net .rows) (i .net .groups) (onSide (i .net) side) (i .limit) (row sel) (j .1)),
         );
         rank = fits-rank (i .net .rows) (i .net .groups) (onSide (i .net) side) (i .limit) (row sel);
       }
@@ -82,6 +91,9 @@ same-test false false f g = refl
 module _ (s sel : List ℕ) (l : Layout) (ready : Ready s sel l) (side : ℕ) where
   abbrev i : Instance
   i = instanceOf s l
+
+  found-means : Told i sel side (bit (foundOn i sel side .fits)) (foundOn i sel side .rank)
+  found-means = told-found i sel side (sound-matroid s l (ready .sound) side) (ready .bits)
 
   -- b tells whether a list of rows fits the side's groups
   told : (X : ℕ → ℕ) (b : Bool) → (b ≡ true → FitsIn s l side X) → (b ≡ false → ¬ FitsIn s l side X) → b ≡ fitsOf i side X
@@ -107,13 +119,13 @@ module _ (s sel : List ℕ) (l : Layout) (ready : Ready s sel l) (side : ℕ) wh
         (told (row sel) (f .fits) (t .lifted .fits) (t .lifted .unfit))
         (rank-unique (l .rows) (Independent (i .net) (i .limit) side) (row sel) (f .rank) (foundOn i sel side .rank)
         (side-rank s l (ready .sound) side (row sel) (f .rank) (t .lifted .rank))
-        (told-found i sel side (ready .bits) .rank))
+        (found-means .rank))
 
     pub finds : Finds i sel side f
     finds =
         record {
           is = found;
-          means = subst (λ (x : Found). Told i sel side (x .fits) (x .rank)) (sym found) (told-found i sel side (ready .bits));
+          means = subst (λ (x : Found). Told i sel side (bit (x .fits)) (x .rank)) (sym found) found-means;
         }
 
     -- the selection with row x added
@@ -137,10 +149,10 @@ module _ (s sel : List ℕ) (l : Layout) (ready : Ready s sel l) (side : ℕ) wh
             (λ q. absurd (true≢false q))
 
         -- r tells whether each group that the row counts in has a place left
-        pub with-asked :
-            x < l .rows → row sel x ≢ 1 → (g : ℕ) → g ≡ hangs s l side x → (r : Bool) → Asked s l side next g r →
-            r ≡ fitsOf i side (plus (row sel) x)
-        with-asked inside n g is r given =
+        pub with-walked :
+            x < l .rows → row sel x ≢ 1 → (ways : List ℕ) → Ways s l side next ways →
+            (g : ℕ) → g ≡ hangs s l side x → (r : Bool) → Walked ways g r → r ≡ fitsOf i side (plus (row sel) x)
+        with-walked inside n ways w g is r walked =
             told (plus (row sel) x) r
             (λ q.
             fits-plus (row sel) x (l .rows) (countOf l side) (countsIn s l side) (limitIn s l side) inside out
@@ -156,7 +168,8 @@ module _ (s sel : List ℕ) (l : Layout) (ready : Ready s sel l) (side : ℕ) wh
             out = omega (arith, ready .bits x inside)
 
             asked : Asked s l side next (hangs s l side x) r
-            asked = subst (λ u. Asked s l side next u r) is given
+            asked =
+                subst (λ u. Walked ways u r) is walked s l side next (ready .sound) w (side-node s l (ready .sound) side x inside)
 
 -- both sides, by what is told of each
 module _ (i : Instance) (sel : List ℕ) (x : ℕ) (card : Bool) (card-is : card ≡ fitsOf i 0 (plus (row sel) x)) where
@@ -193,44 +206,35 @@ module _ (s sel : List ℕ) (side : ℕ) where
     ranked-side h f e b n p q =
         rw (le-ltb _ _ h) (ap₂ ranked-is.Told p q ∙ ap (λ (x : Found). ranked-is.Told (x .fits) (x .rank)) e)
 
-not-told : {A : Type 0} (r : Ranked) (why : Reason) (b : Bool) (n : ℕ) → r ≡ ranked-is.Refused why → r ≡ ranked-is.Told b n → A
-not-told r why b n p q =
-    let z : _≡_ {A = ℕ} 0 1 = cc in
-    absurd (omega arith)
-
-told-same : (r : Ranked) (a b : Bool) (m n : ℕ) → r ≡ ranked-is.Told a m → r ≡ ranked-is.Told b n → (a ≡ b) × (m ≡ n)
-told-same r a b m n p q = (cc, cc)
-
 module _ (s sel : List ℕ) (side : ℕ) (r : Ranked) (is : r ≡ ranked s sel side) where
-  module _ (b : Bool) (n : ℕ) (told : r ≡ ranked-is.Told b n) where
-    -- a call that is turned away tells nothing
-    turned : {A : Type 0} (why : Reason) → entered s sel ≡ Turned why → A
-    turned why e = not-told r why b n (is ∙ ranked-by s sel side (Turned why) e) told
+  -- a refusal's number is not 0
+  not-refused : {A : Type 0} (why : Reason) → rankedNumbers r .number ≡ 0 → r ≡ ranked-is.Refused why → A
+  not-refused why none e = absurd (omega (arith, number-some why, ap (λ x. rankedNumbers x .number) e))
 
-    means-entered :
-        (l : Layout) → entered s sel ≡ Entered l → Selection (l .rows) (row sel) → Told (instanceOf s l) sel side b n
-    means-entered l e bits =
-        elim (decLt 1 side) [
-          | yes h ↦ not-told r Value b n (by ∙ sym (ranked-value s sel side l h)) told
-          | no h ↦
-              let f = foundOn (instanceOf s l) sel side in
-              let found = ranked-side s sel side l (omega arith) f refl (f .fits) (f .rank) refl refl in
-              let q = told-same r (f .fits) b (f .rank) n (by ∙ sym found) told in
-              subst (λ (a : Bool). Told (instanceOf s l) sel side a n) (q .0)
-              (subst (λ (m : ℕ). Told (instanceOf s l) sel side (f .fits) m) (q .1) (told-found (instanceOf s l) sel side bits))
-        ]
-      where
-        by : r ≡ rankedBy s sel side (Entered l)
-        by = is ∙ ranked-by s sel side (Entered l) e
+  means-entered :
+      (l : Layout) → rankedNumbers r .number ≡ 0 → entered s sel ≡ Entered l → Ready s sel l →
+      Told (instanceOf s l) sel side (rankedNumbers r .fits) (rankedNumbers r .rank)
+  means-entered l none e ready =
+      elim (decLt 1 side) [
+        | yes h ↦ not-refused Value none (by ∙ sym (ranked-value s sel side l h))
+        | no h ↦
+            subst (λ (x : Ranked). Told (instanceOf s l) sel side (rankedNumbers x .fits) (rankedNumbers x .rank))
+            (ranked-side s sel side l (omega arith) (foundOn (instanceOf s l) sel side) refl _ _ refl refl ∙ sym by)
+            (found-means s sel l ready side)
+      ]
+    where
+      by : r ≡ rankedBy s sel side (Entered l)
+      by = is ∙ ranked-by s sel side (Entered l) e
 
   answered : Answered s sel side r
   answered =
       record {
         is = is;
-        means = λ l b n e told.
+        numbers = ap rankedNumbers is;
+        means = λ l e none.
             elim (entering s sel l e) [
-              | inl q ↦ turned b n told (q .0) (q .1)
-              | inr q ↦ means-entered b n told l (q .0) (q .1 .bits)
+              | inl q ↦ not-refused (q .0) none (is ∙ ranked-by s sel side (Turned (q .0)) (q .1))
+              | inr q ↦ means-entered l none (q .0) (q .1)
             ];
       }
 
@@ -264,46 +268,41 @@ module _ (s sel : List ℕ) (x : ℕ) where
       pub more-no : b ≡ false → one-more-is.No ≡ oneMoreBy s sel x (Entered l)
       more-no is = rw is at (more-row h b e)
 
-yes-refused : (r : OneMore) (why : Reason) → r ≡ one-more-is.Yes → r ≡ one-more-is.Refused why → ⊥
-yes-refused r why p q = let z : _≡_ {A = ℕ} 0 1 = cc in omega arith
-
-no-refused : (r : OneMore) (why : Reason) → r ≡ one-more-is.No → r ≡ one-more-is.Refused why → ⊥
-no-refused r why p q = let z : _≡_ {A = ℕ} 0 1 = cc in omega arith
-
-picks-yes : (t : Bool) (r : OneMore) → r ≡ one-more-is.Yes → r ≡ pick t one-more-is.Yes one-more-is.No → t ≡ true
-picks-yes true r p q = refl
-picks-yes false r p q = let z : _≡_ {A = ℕ} 0 1 = cc in absurd (omega arith)
-
-picks-no : (t : Bool) (r : OneMore) → r ≡ one-more-is.No → r ≡ pick t one-more-is.Yes one-more-is.No → t ≡ true → ⊥
-picks-no true r p q e = let z : _≡_ {A = ℕ} 0 1 = cc in omega arith
-picks-no false r p q e = false≢true e
+-- the number for an answer by a test
+yes-picked : (t : Bool) → (oneMoreNumbers (pick t one-more-is.Yes one-more-is.No) .yes ≡ 1) ↔ (t ≡ true)
+yes-picked true = (λ e. refl, λ e. refl)
+yes-picked false = (λ e. absurd (omega arith), λ e. absurd (false≢true e))
 
 module _ (s sel : List ℕ) (x : ℕ) (r : OneMore) (is : r ≡ oneMore s sel x) where
   -- an answer that is not a refusal, of an accepted file, is by the test
   by-test :
-      (l : Layout) → reading s ≡ reading-is.Accepted l → ((why : Reason) → r ≡ one-more-is.Refused why → ⊥) →
-      r ≡ pick (addsTo (instanceOf s l) sel x) one-more-is.Yes one-more-is.No
-  by-test l e not =
+      (l : Layout) → reading s ≡ reading-is.Accepted l → oneMoreNumbers r .number ≡ 0 →
+      pick (addsTo (instanceOf s l) sel x) one-more-is.Yes one-more-is.No ≡ r
+  by-test l e none =
       elim (entering s sel l e) [
         | inl q ↦ absurd (not (q .0) (is ∙ more-by s sel x (Turned (q .0)) (q .1)))
         | inr q ↦
             let by = is ∙ more-by s sel x (Entered l) (q .0) in
             elim (decLt x (l .rows)) [
-              | yes h ↦ by ∙ sym (more-row s sel x l h (addsTo (instanceOf s l) sel x) refl)
+              | yes h ↦ more-row s sel x l h (addsTo (instanceOf s l) sel x) refl ∙ sym by
               | no h ↦ absurd (not Value (by ∙ sym (more-value s sel x l (omega arith))))
             ]
       ]
+    where
+      -- a refusal's number is not 0
+      not : (why : Reason) → r ≡ one-more-is.Refused why → ⊥
+      not why e = omega (arith, number-some why, ap (λ y. oneMoreNumbers y .number) e)
 
   added : Added s sel x r
   added =
       record {
         is = is;
-        fits = λ l e y.
-            told-adds (instanceOf s l) sel x .0
-            (picks-yes (addsTo (instanceOf s l) sel x) r y (by-test l e (λ why q. yes-refused r why y q)));
-        unfit = λ l e y f.
-            picks-no (addsTo (instanceOf s l) sel x) r y (by-test l e (λ why q. no-refused r why y q))
-            (told-adds (instanceOf s l) sel x .1 f);
+        numbers = ap oneMoreNumbers is;
+        means = λ l e none.
+            subst (λ (y : OneMore). (oneMoreNumbers y .yes ≡ 1) ↔ FitsMore (instanceOf s l) sel x) (by-test l e none)
+            (let t = yes-picked (addsTo (instanceOf s l) sel x) in
+            let m = told-adds (instanceOf s l) sel x in
+            (λ y. m .0 (t .0 y), λ f. t .1 (m .1 f)));
       }
 
 pub added-by :
@@ -319,17 +318,18 @@ rank-rows :
     (N : ℕ) (Fit : (ℕ → ℕ) → Type 0) (X : ℕ → ℕ) (n : ℕ) → Rank N (λ Y. Selection N Y × Fit Y) X n → n ≤ N
 rank-rows N Fit X n k = omega (arith, k .is, sum-bound N 1 (k .ind .0))
 
-pub told-most : (s sel : List ℕ) (side : ℕ) (b : Bool) (n : ℕ) → ranked s sel side ≡ ranked-is.Told b n → n ≤ maxRows
-told-most s sel side b n e = go (reading s) refl
+pub told-most : (s sel : List ℕ) (side : ℕ) (r : Ranked) → Answered s sel side r → rankedNumbers r .rank ≤ maxRows
+told-most s sel side (ranked-is.Refused why) a = zero-le
+told-most s sel side (ranked-is.Told b n) a = go (reading s) refl
   where
     go : (x : Reading) → reading s ≡ x → n ≤ maxRows
     go (reading-is.Refused why) h =
-        turned s sel side (ranked s sel side) refl b n e (File why) (entered-by s sel (reading-is.Refused why) h)
+        not-refused s sel side (ranked-is.Told b n) (a .is) (File why) refl
+        (a .is ∙ ranked-by s sel side (Turned (File why)) (entered-by s sel (reading-is.Refused why) h))
     go (reading-is.Accepted l) h =
-        let t = answered s sel side (ranked s sel side) refl .means l b n h e in
         let d = instanceOf s l in
         omega (
           arith,
-          rank-rows (l .rows) (FitsSide (d .net) (d .limit) side) (row sel) n (t .rank),
+          rank-rows (l .rows) (FitsSide (d .net) (d .limit) side) (row sel) n (a .means l h refl .rank),
           accepted-sound s l h .rows-most,
         )

@@ -1,17 +1,23 @@
--- Laws of the way up from a group of a side, one law for each branch of the walks.
+-- Laws of the way up from a group of a side.
 --   parent-lower parent-root       the parent by the number in a group's record
 --   side-rooted side-down      a side's parents make a forest
---   up-none up-parent up-top   the groups from g up: none from a root, g and those from its parent up, g alone at the top
---   room-none room-up room-top full-here full-up asked-up      whether they all have a place left
-use mathlib.Core.Path.{_≡_, refl, sym, _∙_, ap}
+--   up-none up-in up-apart     the groups from g up: none from a root; g and those from its parent up, of which g is none
+--   room-none room-up full-here full-up asked-up       whether they all have a place left
+--   way-shut way-open          the way on from a group
+--   WaysTo ways-step           the ways on from the groups before g, and from the next one too
+--   way-full way-place way-parent      what the way on says of the group
+--   walked-past walked-shut walked-up walked-top       one law for each branch of the walk
+use mathlib.Core.Path.{_≡_, sym, _∙_, ap, subst}
 use mathlib.Core.List.{List}
-use mathlib.Core.Bool.{Bool}
+use mathlib.Core.Bool.{Bool, true, false, false≢true, true≢false}
 use mathlib.Core.Logic.{inl, inr, _≢_}
 use Prim.Native.Nat.{ℕ, _+_, _≤_, _<_}
-use native.Mathlib.Nat.{le-refl}
 use native.Mathlib.Decide.{ℕ-discrete, decLt}
 use native.Mathlib.Omega.{arith}
-use borrow.Author.Tests.{lt-ltb, le-ltb}
+use lib.ListN.{length, set}
+use lib.Seq.{getD-set-same, getD-set-other}
+use borrow.Author.Tests.{lt-ltb, le-ltb, lt-leb, le-leb}
+use Rattle.theory.specs.Bounds.{maxGroups}
 use Rattle.theory.specs.Sum.{same}
 use Rattle.theory.specs.Forest.{Down}
 use Rattle.theory.specs.Matroid.{row}
@@ -20,8 +26,10 @@ use Rattle.theory.proofs.SumLaws.{same-self, same-ne}
 use Rattle.theory.proofs.ForestLaws.{chain-out, chain-in, chain-above}
 use Rattle.theory.proofs.LandLaws.{rooted-down}
 use Rattle.claimfile.specs.Day.{countOf, groupOf}
+use Rattle.claimfile.specs.Sound.{Sound}
 use Rattle.claimfile.specs.declared.Layout.{Layout}
-use Rattle.limits.specs.Side.{parentBy, parentIn, limitIn, upIn, HasRoom, IsFull, Asked}
+use Rattle.claimfile.proofs.DayLaws.{side-most}
+use Rattle.limits.specs.Side.{parentBy, parentIn, limitIn, upIn, HasRoom, IsFull, Asked, shut, wayBy, Ways, Walked}
 
 module _ (G u h : ℕ) where
   pub parent-lower : u < h → u ≡ parentBy G u h
@@ -50,72 +58,124 @@ module _ (s : List ℕ) (l : Layout) (side : ℕ) where
   up-none : (g h : ℕ) → countOf l side ≤ g → upIn s l side g h ≡ 0
   up-none g h m = chain-out (countOf l side) (parentIn s l side) side-down g h m
 
-  -- groups with a greater number are not above u
-  up-above : (u h : ℕ) → u < h → upIn s l side u h ≡ 0
-  up-above = chain-above (countOf l side) (parentIn s l side) side-down
+  module _ (g : ℕ) (inside : g < countOf l side) where
+    -- g itself, and the groups from its parent up
+    up-in : (h : ℕ) → upIn s l side g h ≡ same g h + upIn s l side (parentIn s l side g) h
+    up-in h = chain-in (countOf l side) (parentIn s l side) side-down g h inside
 
-  -- u is the parent in the record of group g
-  module _ (g : ℕ) (inside : g < countOf l side) (u : ℕ) (is : u ≡ groupOf s l side g .parent) where
-    up-parent : u < g → (h : ℕ) → upIn s l side g h ≡ same g h + upIn s l side u h
-    up-parent m h =
-        chain-in (countOf l side) (parentIn s l side) side-down g h inside
-        ∙ ap (λ x. same g h + upIn s l side x h) (parent-is g (omega arith) ∙ sym is)
-
-    up-top : g ≤ u → (h : ℕ) → upIn s l side g h ≡ same g h
-    up-top m h =
-        chain-in (countOf l side) (parentIn s l side) side-down g h inside
-        ∙ omega (
-          arith,
-          ap (λ x. upIn s l side x h) (parent-top g (omega arith)),
-          up-none (countOf l side) h (le-refl (countOf l side)),
-        )
-
-  -- a group is on its own way up
-  up-self : (g : ℕ) → g < countOf l side → upIn s l side g g ≡ 1
-  up-self g m = go (groupOf s l side g .parent) refl
-    where
-      go : (u : ℕ) → u ≡ groupOf s l side g .parent → upIn s l side g g ≡ 1
-      go u e =
-          elim (decLt u g) [
-            | yes h ↦ omega (arith, up-parent g m u e h g, same-self g, up-above u g h)
-            | no h ↦ omega (arith, up-top g m u e (omega arith) g, same-self g)
-          ]
+    -- a group is not above itself
+    up-apart : upIn s l side (parentIn s l side g) g ≡ 0
+    up-apart =
+        elim (side-rooted g inside) [
+          | inl m ↦ chain-above (countOf l side) (parentIn s l side) side-down (parentIn s l side g) g m
+          | inr e ↦ up-none (parentIn s l side g) g (omega arith)
+        ]
 
 --------------------------------------------------------------------------------
 -- Whether they all have a place left
 
 module _ (s : List ℕ) (l : Layout) (side : ℕ) (k : List ℕ) (g : ℕ) where
-  pub room-none : countOf l side ≤ g → HasRoom s l side k g
+  room-none : countOf l side ≤ g → HasRoom s l side k g
   room-none m h i e = absurd (omega (arith, up-none s l side g h m))
 
   module _ (inside : g < countOf l side) where
-    pub full-here : limitIn s l side g ≤ row k g → IsFull s l side k g
-    full-here m = (g, inside, up-self s l side g inside, m)
+    full-here : limitIn s l side g ≤ row k g → IsFull s l side k g
+    full-here m = (g, inside, omega (arith, up-in s l side g inside g, up-apart s l side g inside, same-self g), m)
 
-    module _ (u : ℕ) (is : u ≡ groupOf s l side g .parent) where
-      pub room-top : row k g < limitIn s l side g → g ≤ u → HasRoom s l side k g
-      room-top place m h i e =
+    module _ (place : row k g < limitIn s l side g) where
+      room-up : HasRoom s l side k (parentIn s l side g) → HasRoom s l side k g
+      room-up above h i e =
           elim (ℕ-discrete g h) [
             | yes q ↦ rw (← q) place
-            | no q ↦ absurd (omega (arith, up-top s l side g inside u is m h, same-ne g h q))
+            | no q ↦ above h i (omega (arith, up-in s l side g inside h, same-ne g h q))
           ]
 
-      module _ (m : u < g) where
-        -- g is not above u
-        apart : (h : ℕ) → upIn s l side u h ≡ 1 → g ≢ h
-        apart h e q = omega (arith, e, up-above s l side u h (omega arith))
+      full-up : IsFull s l side k (parentIn s l side g) → IsFull s l side k g
+      full-up f =
+          let h = f .0 in
+          let apart : g ≢ h = λ q.
+          omega (arith, f .2, up-apart s l side g inside, ap (λ x. upIn s l side (parentIn s l side g) x) q) in
+          (h, f .1, omega (arith, up-in s l side g inside h, same-ne g h apart, f .2), f .3)
 
-        room-up : row k g < limitIn s l side g → HasRoom s l side k u → HasRoom s l side k g
-        room-up place above h i e =
-            elim (ℕ-discrete g h) [
-              | yes q ↦ rw (← q) place
-              | no q ↦ above h i (omega (arith, up-parent s l side g inside u is m h, same-ne g h q))
-            ]
+      asked-up : (r : Bool) → Asked s l side k (parentIn s l side g) r → Asked s l side k g r
+      asked-up r a = record { room = λ e. room-up (a .room e); full = λ e. full-up (a .full e) }
 
-        full-up : IsFull s l side k u → IsFull s l side k g
-        full-up f =
-            let h = f .0 in
-            (h, f .1, omega (arith, up-parent s l side g inside u is m h, same-ne g h (apart h (f .2)), f .2), f .3)
+--------------------------------------------------------------------------------
+-- The ways on
 
-        pub asked-up : (r : Bool) → row k g < limitIn s l side g → Asked s l side k u r → Asked s l side k g r
-        asked-up r place a = record { room = λ e. room-up place (a .room e); full = λ e. full-up (a .full e) }
+module _ (s : List ℕ) (l : Layout) (side g n : ℕ) where
+  pub way-shut : limitIn s l side g ≤ n → shut ≡ wayBy s l side g n
+  way-shut m = rw (le-leb _ _ m)
+
+  pub way-open : n < limitIn s l side g → parentIn s l side g ≡ wayBy s l side g n
+  way-open m = rw (lt-leb _ _ m)
+
+-- from the groups before g
+abbrev pub WaysTo : List ℕ → Layout → ℕ → List ℕ → List ℕ → ℕ → Type 0
+WaysTo s l side k ways g = (h : ℕ) → h < g → row ways h ≡ wayBy s l side h (row k h)
+
+pub ways-step :
+    (s : List ℕ) (l : Layout) (side : ℕ) (k ways : List ℕ) (g w : ℕ) → g < length ways → w ≡ wayBy s l side g (row k g) →
+    WaysTo s l side k ways g → WaysTo s l side k (set ways g w) (g + 1)
+ways-step s l side k ways g w inside e to h m =
+    elim (ℕ-discrete g h) [
+      | yes q ↦ rw (← q) (getD-set-same ways g w 0 inside ∙ e)
+      | no q ↦ getD-set-other ways g h w 0 (λ i. q (sym i)) ∙ to h (omega arith)
+    ]
+
+-- the way on from group g
+module _ (s : List ℕ) (l : Layout) (side : ℕ) (k ways : List ℕ) (sound : Sound s l) (w : Ways s l side k ways) where
+  module _ (g : ℕ) (inside : g < countOf l side) where
+    way-full : row ways g ≡ shut → limitIn s l side g ≤ row k g
+    way-full e =
+        elim (decLt (row k g) (limitIn s l side g)) [
+          | yes m ↦
+              absurd
+              (elim (side-rooted s l side g inside) [
+                | inl d ↦ omega (arith, w .on g inside, way-open s l side g (row k g) m, side-most s l sound side)
+                | inr d ↦ omega (arith, w .on g inside, way-open s l side g (row k g) m, side-most s l sound side)
+              ])
+          | no m ↦ omega arith
+        ]
+
+    way-place : row ways g ≢ shut → row k g < limitIn s l side g
+    way-place n =
+        elim (decLt (row k g) (limitIn s l side g)) [
+          | yes m ↦ m
+          | no m ↦ absurd (n (w .on g inside ∙ sym (way-shut s l side g (row k g) (omega arith))))
+        ]
+
+    way-parent : row ways g ≢ shut → row ways g ≡ parentIn s l side g
+    way-parent n = w .on g inside ∙ sym (way-open s l side g (row k g) (way-place n))
+
+-- one law for each branch of the walk
+module _ (ways : List ℕ) (g : ℕ) where
+  pub walked-past : maxGroups < g → Walked ways g true
+  walked-past m s l side k sound w inside = absurd (omega (arith, side-most s l sound side))
+
+  pub walked-shut : row ways g ≡ shut → Walked ways g false
+  walked-shut e s l side k sound w inside =
+      record {
+        room = λ q. absurd (false≢true q);
+        full = λ q. full-here s l side k g inside (way-full s l side k ways sound w g inside e);
+      }
+
+  module _ (n : row ways g ≢ shut) where
+    pub walked-up : (u : ℕ) → u ≡ row ways g → u < g → (r : Bool) → Walked ways u r → Walked ways g r
+    walked-up u e m r walked s l side k sound w inside =
+        asked-up s l side k g inside (way-place s l side k ways sound w g inside n) r
+        (subst (λ v. Asked s l side k v r) (e ∙ way-parent s l side k ways sound w g inside n)
+        (walked s l side k sound w (omega arith)))
+
+    pub walked-top : g ≤ row ways g → Walked ways g true
+    walked-top m s l side k sound w inside =
+        record {
+          room = λ q.
+              room-up s l side k g inside (way-place s l side k ways sound w g inside n)
+              (room-none s l side k (parentIn s l side g)
+              (elim (side-rooted s l side g inside) [
+                | inl d ↦ absurd (omega (arith, way-parent s l side k ways sound w g inside n))
+                | inr d ↦ omega arith
+              ]));
+          full = λ q. absurd (true≢false q);
+        }

@@ -27,11 +27,12 @@ use Rattle.theory.specs.Rise.{own, Risen}
 use Rattle.theory.proofs.SumLaws.{same-self, same-ne}
 use Rattle.theory.proofs.LandLaws.{own-start, own-next, own-small}
 use Rattle.theory.proofs.RiseLaws.{risen-start, risen-step, risen-small, risen-rank, risen-fits, risen-over}
-use Rattle.claimfile.specs.Day.{countOf, Sound}
+use Rattle.claimfile.specs.Day.{countOf}
+use Rattle.claimfile.specs.Sound.{Sound}
 use Rattle.claimfile.specs.declared.Layout.{Layout}
 use Rattle.claimfile.proofs.DayLaws.{side-most}
 use Rattle.limits.specs.declared.Found.{Found}
-use Rattle.limits.specs.Answers.{Ready}
+use Rattle.limits.specs.Ready.{Ready}
 use Rattle.limits.specs.Side.{parentIn, limitIn, hangs, Zero, Counted, Held, Passes, PassedOn, Named, Begun, Rose, Placed}
 use Rattle.limits.proofs.ChainLaws.{side-rooted}
 use Rattle.limits.proofs.SideLaws.{side-node}

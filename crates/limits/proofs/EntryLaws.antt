@@ -23,7 +23,8 @@ use Rattle.refusal.specs.declared.Reason.{Reason}
 use Rattle.refusal.specs.declared.Reason.the-variants.{File, Short, Value}
 use Rattle.limits.specs.declared.Entry.{Entry}
 use Rattle.limits.specs.declared.Entry.the-variants.{Entered, Turned}
-use Rattle.limits.specs.Answers.{bits, enteredBy, entered, Ready}
+use Rattle.limits.specs.Answers.{bits, enteredBy, entered}
+use Rattle.limits.specs.Ready.{Ready}
 use Rattle.limits.proofs.SelectionLaws.{are-bits}
 
 module _ (sel : List ℕ) (l : Layout) where

@@ -2,6 +2,8 @@
 --   hangs-card hangs-shop  where a row hangs on a side, by its record
 --   side-node              rows hang at groups of the side
 --   side-hanging           the rows at the groups of the side, as rows at the nodes of the network
+--   sound-matroid          the lists of rows that fit a side of a sound file are the independent sets of a matroid
+--   file-matroid           the same of an accepted file
 --   side-fits fits-side side-rank      what fits the side's groups fits the side, and a rank there is a rank on the side
 use mathlib.Core.Path.{_≡_, refl}
 use mathlib.Core.List.{List}
@@ -13,12 +15,17 @@ use native.Mathlib.Omega.{arith}
 use borrow.Author.Tests.{lt-ltb, le-ltb}
 use Rattle.theory.specs.Incidence.{Selection}
 use Rattle.theory.specs.Network.{node, onSide, FitsSide, Independent}
-use Rattle.theory.specs.Matroid.{Rank}
+use Rattle.theory.specs.Matroid.{Matroid, Rank}
 use Rattle.theory.proofs.NetworkLaws.{formed-down}
+use Rattle.theory.proofs.MatroidLaws.{side-matroid}
 use Rattle.theory.proofs.EmbedLaws.{Stands, Hanging, part-fits, fits-part, part-rank}
 use Rattle.claimfile.specs.Day.{countOf, groupOf, namedCard, namedShop, groupsOf, firstOf, rootOf}
-use Rattle.claimfile.specs.Day.{parentOf, limitOf, networkOf, Sound}
+use Rattle.claimfile.specs.Day.{parentOf, limitOf, networkOf}
+use Rattle.claimfile.specs.Sound.{Sound}
+use Rattle.claimfile.specs.File.{reading}
 use Rattle.claimfile.specs.declared.Layout.{Layout}
+use Rattle.claimfile.specs.declared.Reading.the-variants.{Accepted}
+use Rattle.claimfile.proofs.AcceptedLaws.{accepted-sound}
 use Rattle.claimfile.proofs.DayLaws.{parent-on, limit-on, card-node, shop-node, sound-formed}
 use Rattle.limits.specs.Side.{parentIn, limitIn, hangs, FitsIn}
 use Rattle.limits.proofs.ChainLaws.{side-down}
@@ -47,6 +54,9 @@ module _ (s : List ℕ) (l : Layout) (sound : Sound s l) where
   node-is : (side c : ℕ) → node (networkOf s l) side c ≡ firstOf l side + hangs s l side c
   node-is zero c = omega (arith, card-node s l c)
   node-is (suc n) c = shop-node s l c
+
+  pub sound-matroid : (side : ℕ) → Matroid (l .rows) (Independent (networkOf s l) (limitOf s l) side)
+  sound-matroid = side-matroid (networkOf s l) (sound-formed s l sound) (limitOf s l)
 
   module _ (side : ℕ) where
     -- a smaller parent is a group of the side, any other stands for the root
@@ -96,3 +106,9 @@ module _ (s : List ℕ) (l : Layout) (sound : Sound s l) where
       side-rank =
           part-rank (l .rows) (countOf l side) (parentIn s l side) (limitIn s l side) (hangs s l side) (groupsOf l)
           (parentOf s l) (limitOf s l) (node (networkOf s l) side) (firstOf l side) side-hanging X
+
+-- demand 2: the lists of rows that fit a side of an accepted file are the independent sets of a matroid
+pub file-matroid :
+    (s : List ℕ) (l : Layout) → reading s ≡ Accepted l → (side : ℕ) →
+    Matroid (l .rows) (Independent (networkOf s l) (limitOf s l) side)
+file-matroid s l e = sound-matroid s l (accepted-sound s l e)

@@ -9,6 +9,10 @@
 --   HasRoom s l side k g   each group from g up has a place left beside the counts k
 --   IsFull s l side k g    one of them has none
 --   Asked s l side k g r   r says which
+--   shut                   in place of a way on from a group: no place is left in it
+--   wayBy s l side h n     the way on from group h that counts n: its parent or the top, or `shut`
+--   Ways s l side k ways   `ways` has it for each group of the side, by the counts k
+--   Walked ways g r        whatever side and counts the ways are of, r says whether each group from g up has a place left
 -- For the counts k, a cell for each group and one for the top:
 --   Zero k                 all 0
 --   Counted s sel l side k     each group counts the selected rows that hang at it
@@ -34,7 +38,8 @@ use Rattle.theory.specs.Forest.{chain, hung}
 use Rattle.theory.specs.Incidence.{Selection, load, Fits}
 use Rattle.theory.specs.Matroid.{Rank, row}
 use Rattle.theory.specs.Rise.{own}
-use Rattle.claimfile.specs.Day.{countOf, groupOf, namedCard, namedShop, Sound}
+use Rattle.claimfile.specs.Day.{countOf, groupOf, namedCard, namedShop}
+use Rattle.claimfile.specs.Sound.{Sound}
 use Rattle.claimfile.specs.declared.Layout.{Layout}
 use Rattle.limits.specs.declared.Found.{Found}
 
@@ -66,6 +71,19 @@ IsFull s l side k g = (h : ℕ) × (h < countOf l side) × (upIn s l side g h �
 pub record Asked (s : List ℕ) (l : Layout) (side : ℕ) (k : List ℕ) (g : ℕ) (r : Bool) : Type 0 where
   pub room : r ≡ true → HasRoom s l side k g
   pub full : r ≡ false → IsFull s l side k g
+
+abbrev pub shut : ℕ
+shut = 65535
+
+abbrev pub wayBy : List ℕ → Layout → ℕ → ℕ → ℕ → ℕ
+wayBy s l side h n = pick (leb (limitIn s l side h) n) shut (parentIn s l side h)
+
+pub record Ways (s : List ℕ) (l : Layout) (side : ℕ) (k ways : List ℕ) : Type 0 where
+  pub on : (h : ℕ) → h < countOf l side → row ways h ≡ wayBy s l side h (row k h)
+
+abbrev pub Walked : List ℕ → ℕ → Bool → Type 0
+Walked ways g r =
+    (s : List ℕ) (l : Layout) (side : ℕ) (k : List ℕ) → Sound s l → Ways s l side k ways → g < countOf l side → Asked s l side k g r
 
 --------------------------------------------------------------------------------
 -- The counts of the rows, at the groups that they name and as they rise

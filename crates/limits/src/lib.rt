@@ -5,17 +5,21 @@
 // its parent as many as came to it, but no more than its limit. Since each parent has a smaller number, all that comes to a group has
 // come when its turn is. What comes to the top is the rank, and the selection fits where each group passed on all that came to it.
 // The cost is rows + groups; the memory is one count for each group of one side, and one for the top.
-// For one row more the groups from the row's own up to the top are asked for a place, by a walk through the parents.
+// For one row more the way on from each group is found: to its parent, to the top, or none where no place is left in it. Then a walk
+// goes through the parents, from the row's own group. It takes a table of fixed length and one number, and its own call comes last, so
+// that a compiler can make it a loop: a deep chain of groups needs no more memory than a short one.
 ghost use mathlib.Core.Path.{_≡_};
 ghost use Prim.Native.Nat.{min, _<_, _≤_};
 ghost use lib.ListN.{length};
 ghost use Rattle.theory.specs.Bounds.{maxGroups};
 ghost use Rattle.theory.specs.Incidence.{plus};
 ghost use Rattle.theory.specs.Matroid as matroid;
-ghost use Rattle.claimfile.specs.Day.{instanceOf, Sound};
+ghost use Rattle.claimfile.specs.Day.{countOf, instanceOf};
+ghost use Rattle.claimfile.specs.Sound.{Sound};
 ghost use Rattle.claimfile.specs.declared.Reading.the-variants.{Accepted};
-ghost use Rattle.limits.specs.Answers.{bits, enteredBy, entered, Ready, fitsOf, Finds, Adds, Answered, Added};
-ghost use Rattle.limits.specs.Side.{parentBy, hangs, Held, Asked, Zero, Counted, Passes, PassedOn, Begun, Rose, Placed};
+ghost use Rattle.limits.specs.Answers.{bits, enteredBy, entered, fitsOf, Finds, Adds, Answered, Added};
+ghost use Rattle.limits.specs.Ready.{Ready};
+ghost use Rattle.limits.specs.Side.{parentBy, hangs, Held, Zero, Counted, Passes, PassedOn, Begun, Rose, Placed, wayBy, Ways, Walked};
 use claimfile::Layout;
 use claimfile::Reading;
 use claimfile::claim_of;
@@ -27,6 +31,9 @@ use theory::MAX_GROUPS;
 
 // The counts of a side: one for each of its groups, and one for the top.
 const CELLS: usize = MAX_GROUPS + 1;
+
+// In place of the way on from a group: no place is left in it.
+const SHUT: u16 = 65535;
 
 // Whether a selection fits a side, and its rank there.
 pub enum Ranked {
@@ -75,24 +82,6 @@ fn hangs_at(file: &[u8], layout: Layout, side: usize, c: usize) -> usize
         return claim.card;
     }
     claim.shop
-}
-
-// Whether each group from `g` up has a place left beside the counts.
-fn has_room(file: &[u8], layout: Layout, side: usize, g: usize, counts: &[u16]) -> bool
-    requires { ⌜ Held (now file) layout side (now counts) ⌝ }
-    ensures { λ r. ⌜ Asked (now (file .entry)) layout side (now (counts .entry)) g r ⌝ }
-{
-    if groups_on(layout, side) <= g {
-        return true;
-    }
-    let group = group_of(file, layout, side, g);
-    if group.limit <= wide(counts[g]) {
-        return false;
-    }
-    if g <= group.parent {
-        return true;
-    }
-    has_room(file, layout, side, group.parent, counts)
 }
 
 // Counts each selected row at the group that it names.
@@ -181,6 +170,51 @@ pub fn rank_on(file: &[u8], layout: Layout, side: usize, selection: &[u8]) -> Fo
     rise_on(file, layout, side, selection, &mut counts)
 }
 
+// The way on from group `g` beside its count: to its parent or the top, or none where no place is left in it.
+fn way_on(file: &[u8], layout: Layout, side: usize, g: usize, count: u16) -> u16
+    requires { ⌜ (Sound (now file) layout) × (g < countOf layout side) ⌝ }
+    ensures { λ r. ⌜ r ≡ wayBy (now (file .entry)) layout side g count ⌝ }
+{
+    let group = group_of(file, layout, side, g);
+    if group.limit <= wide(count) {
+        return SHUT;
+    }
+    above(group.parent, g, groups_on(layout, side)) as u16
+}
+
+// The ways on from the groups of a side.
+fn ways_of(file: &[u8], layout: Layout, side: usize, counts: &[u16]) -> [u16; CELLS]
+    requires { ⌜ Held (now file) layout side (now counts) ⌝ }
+    ensures { λ r. ⌜ Ways (now (file .entry)) layout side (now (counts .entry)) r ⌝ }
+{
+    let top = groups_on(layout, side);
+    let mut ways = [0u16; CELLS];
+    let mut g = 0;
+    while g < top {
+        ways[g] = way_on(file, layout, side, g, counts[g]);
+        g += 1;
+    }
+    ways
+}
+
+// Whether a place is left in each group from `g` up.
+fn has_room(ways: &[u16; CELLS], g: usize) -> bool
+    ensures { λ r. ⌜ Walked (now (ways .entry)) g r ⌝ }
+{
+    if CELLS <= g {
+        return true;
+    }
+    let way = ways[g];
+    if way == SHUT {
+        return false;
+    }
+    let up = wide(way);
+    if g <= up {
+        return true;
+    }
+    has_room(ways, up)
+}
+
 // Whether the selection with a row added fits a side of an accepted file.
 fn fits_with(file: &[u8], layout: Layout, side: usize, row: usize, selection: &[u8]) -> bool
     requires { ⌜ Ready (now file) (now selection) layout ⌝ }
@@ -195,8 +229,8 @@ fn fits_with(file: &[u8], layout: Layout, side: usize, row: usize, selection: &[
     if selection[row] == 1 {
         return true;
     }
-    let g = hangs_at(file, layout, side, row);
-    has_room(file, layout, side, g, &counts)
+    let ways = ways_of(file, layout, side, &counts);
+    has_room(&ways, hangs_at(file, layout, side, row))
 }
 
 // Whether a selection of an accepted file with the row added fits both sides. A row already in it adds nothing.

@@ -4,13 +4,11 @@
 --   prints-refused prints-accepted     what is printed for a file, by its reading
 use mathlib.Core.Path.{_≡_, refl, ap, _∙_, subst}
 use mathlib.Core.List.{List}
-use Prim.Native.Nat.{ℕ, _*_}
+use Prim.Native.Nat.{ℕ}
 use Rattle.theory.specs.Matroid.{row}
-use Rattle.theory.specs.Incidence.{size, worth}
+use Rattle.theory.specs.Incidence.{size}
 use Rattle.theory.specs.Network.{Instance}
-use Rattle.theory.specs.Priority.{kept, weightOf}
-use Rattle.theory.proofs.SumLaws.{sum-cong}
-use Rattle.theory.proofs.BestLaws.{kept-agree}
+use Rattle.theory.specs.Priority.{kept}
 use Rattle.claimfile.specs.declared.Layout.{Layout}
 use Rattle.claimfile.specs.declared.Refusal.{Refusal}
 use Rattle.claimfile.specs.declared.Reading.the-variants as reading-is
@@ -23,12 +21,13 @@ use Rattle.refusal.specs.Table.{numberOf}
 use Rattle.closing.specs.declared.Totals.{Totals}
 use Rattle.closing.specs.declared.Settled.{Settled}
 use Rattle.closing.specs.declared.Settled.the-variants.{Closed, Refused}
-use Rattle.closing.specs.Settle.{Closes, SettlesOn}
+use Rattle.closing.specs.Settle.{bestRow, Closes, SettlesOn}
+use Rattle.closing.proofs.AnswerLaws.{best-earned, best-rows, best-total}
 use Rattle.closing.proofs.Demand.{not-refused, closed-on}
 use Rattle.text.specs.Buffer.{Written}
 use Rattle.report.specs.Text.{closedText, refusedText}
 use Rattle.report.proofs.TextLaws.{closed-agree}
-use Rattle.printout.specs.Printout.{bestRow, dayText, PrintsOn, Prints}
+use Rattle.printout.specs.Printout.{dayText, PrintsOn, Prints}
 
 --------------------------------------------------------------------------------
 -- A day
@@ -40,15 +39,10 @@ unfolding dayText
 closed-text i ch sheet t ch′ sheet′ t′ a C =
     let N = i .net .rows in
     let X = bestRow i in
-    let w = weightOf N (i .kind) in
-    let earned : a .earned ≡ kept N (i .kind) X 1 = C .earned ∙ ap (λ f. f 1) (kept-agree N (i .kind) (C .best)) in
-    let rows : a .kept ≡ size N X = C .kept ∙ sum-cong N (C .best) in
-    let total : a .total ≡ worth N w X =
-    C .total ∙ C .certified .equal ∙ sum-cong N (λ c h. ap (λ x. x * w c) (C .best c h)) in
     closed-agree N (a .earned) (a .kept) (a .total) (i .kind) (C .best)
-    ∙ ap (λ e. closedText N (i .kind) X e (a .kept) (a .total)) earned
-    ∙ ap (λ k. closedText N (i .kind) X (kept N (i .kind) X 1) k (a .total)) rows
-    ∙ ap (λ n. closedText N (i .kind) X (kept N (i .kind) X 1) (size N X) n) total
+    ∙ ap (λ e. closedText N (i .kind) X e (a .kept) (a .total)) (best-earned i ch sheet t ch′ sheet′ t′ a C)
+    ∙ ap (λ k. closedText N (i .kind) X (kept N (i .kind) X 1) k (a .total)) (best-rows i ch sheet t ch′ sheet′ t′ a C)
+    ∙ ap (λ n. closedText N (i .kind) X (kept N (i .kind) X 1) (size N X) n) (best-total i ch sheet t ch′ sheet′ t′ a C)
 
 -- a call is turned away for one reason
 one-reason : (r : Settled) (v w : Reason) → r ≡ Refused v → r ≡ Refused w → v ≡ w

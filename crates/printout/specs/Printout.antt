@@ -1,5 +1,5 @@
 -- What `settle` prints for a file. The file's bytes alone decide it.
---   bestRow i              the best choice of the day, row by row
+--   longestText            how many bytes are enough for every text (`printed-whole`, RoomLaws)
 --   dayText i              the text of a closed day: its best choice, with the counts and the weight of that choice
 --   PrintsOn i ..          what printing a day leaves: the text in the lent buffer, of the closed day or of the refusal, and in the
 --                          other buffers what settling leaves
@@ -10,10 +10,8 @@ use mathlib.Core.List.{List}
 use Prim.Native.Nat.{ℕ, _≤_}
 use lib.ListN.{length, take}
 use Rattle.theory.specs.Incidence.{size, worth}
-use Rattle.theory.specs.Matroid.{row}
 use Rattle.theory.specs.Network.{Instance}
 use Rattle.theory.specs.Priority.{kept, weightOf}
-use Rattle.theory.specs.Best.{bestChoice}
 use Rattle.claimfile.specs.declared.Layout.{Layout}
 use Rattle.claimfile.specs.declared.Refusal.{Refusal}
 use Rattle.claimfile.specs.declared.Reading.the-variants.{Accepted, Refused}
@@ -22,12 +20,12 @@ use Rattle.claimfile.specs.Day.{instanceOf}
 use Rattle.refusal.specs.declared.Reason.the-variants.{File, Short}
 use Rattle.refusal.specs.Table.{numberOf}
 use Rattle.closing.specs.declared.Totals.{Totals}
-use Rattle.closing.specs.Settle.{Enough, Lacks, Untouched, Closes}
+use Rattle.closing.specs.Settle.{bestRow, Enough, Lacks, Untouched, Closes}
 use Rattle.text.specs.Buffer.{Written}
 use Rattle.report.specs.Text.{closedText, refusedText}
 
-abbrev pub bestRow : Instance → ℕ → ℕ
-bestRow i = row (bestChoice (i .net) (i .limit) 2 (i .kind))
+abbrev pub longestText : ℕ
+longestText = 9600
 
 unfoldable pub dayText : Instance → List ℕ
 dayText i =

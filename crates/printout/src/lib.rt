@@ -1,5 +1,6 @@
 // What `settle` prints for a claim file, written into a lent buffer.
-ghost use Rattle.claimfile.specs.Day.{instanceOf, Sound};
+ghost use Rattle.claimfile.specs.Day.{instanceOf};
+ghost use Rattle.claimfile.specs.Sound.{Sound};
 ghost use Rattle.printout.specs.Printout.{PrintsOn, Prints};
 use claimfile::Layout;
 use claimfile::Reading;

@@ -1,5 +1,6 @@
 -- Laws of document 01's table of refusals.
 --   number-some            no reason has the number 0, which stands for a call that is answered
+--   number-most            every number has at most two digits
 use Prim.Native.Nat.{_<_}
 use native.Mathlib.Omega.{arith}
 use Rattle.claimfile.specs.declared.Refusal.{Refusal}
@@ -21,3 +22,17 @@ pub number-some : (why : Reason) → 0 < numberOf why
 number-some (File why) = file-some why
 number-some Short = omega arith
 number-some Value = omega arith
+
+file-most : (why : Refusal) → fileNumber why < 100
+file-most CutOff = omega arith
+file-most GroupCount = omega arith
+file-most Parent = omega arith
+file-most ClaimCount = omega arith
+file-most NoSuchGroup = omega arith
+file-most Kind = omega arith
+file-most Trailing = omega arith
+
+pub number-most : (why : Reason) → numberOf why < 100
+number-most (File why) = file-most why
+number-most Short = omega arith
+number-most Value = omega arith

@@ -51,7 +51,7 @@ rows-length w (suc c) kind choice h =
     simp (length-append, suc-mul)
     (omega (arith, rows-length w c kind choice (omega arith), row-length c (kind c) (choice c), decimal-length w c h))
 
-closed-length : (w v rows earned kept total : ℕ) (kind choice : ℕ → ℕ) → rows ≤ 10 ^ suc w
+pub closed-length : (w v rows earned kept total : ℕ) (kind choice : ℕ → ℕ) → rows ≤ 10 ^ suc w
     → rows < 10 ^ suc v → earned < 10 ^ suc v → kept < 10 ^ suc v → total < 10 ^ suc v
     → length (closedText rows kind choice earned kept total) ≤ rows * (w + 16) + (4 * v + 33)
 unfolding closedText firstLine lastLine

@@ -13,7 +13,7 @@ use native.Mathlib.Omega.{arith}
 use lib.Dec.{ltb, leb, eqb}
 use borrow.Author.Tests.{ltb-false, lt-ltb, le-ltb, leb-false, lt-leb, eqb-true, eqb-false, eq-eqb, ne-eqb, not-true}
 use Rattle.theory.specs.Sum.{pick}
-use Rattle.theory.specs.Network.{Formed}
+use Rattle.theory.specs.Formed.{Formed}
 use Rattle.theory.specs.Residual.{Residual, dues, Arc, Up, Down}
 use Rattle.theory.specs.Residual.Arc.{down, up, puts, takes}
 use Rattle.theory.proofs.ResidualLaws.{arc-up, arc-down, arc-row, sides-apart}

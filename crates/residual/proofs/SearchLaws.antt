@@ -19,7 +19,7 @@ use lib.ListN.{getD}
 use borrow.Author.Tests.{eqb-true, eq-eqb, ltb-true, lt-ltb, le-leb}
 use Rattle.theory.specs.Bounds.{cellBound}
 use Rattle.theory.specs.Sum.{pick}
-use Rattle.theory.specs.Network.{Formed}
+use Rattle.theory.specs.Formed.{Formed}
 use Rattle.theory.specs.Residual.{Residual, Arc}
 use Rattle.theory.proofs.ResidualLaws.{one-head, card-below, shop-below, parent-below}
 use Rattle.theory.proofs.TestLaws.{either, picked, and-true, true-and}

@@ -25,7 +25,8 @@ use Prim.Native.Nat.{ℕ, _+_, _-_, _≤_, _<_}
 use lib.Dec.{ltb}
 use lib.ListN.{length}
 use Rattle.theory.specs.Sum.{pick}
-use Rattle.theory.specs.Network.{Network, Formed}
+use Rattle.theory.specs.Network.{Network}
+use Rattle.theory.specs.Formed.{Formed}
 use Rattle.theory.specs.Residual.{Residual, dues}
 use Rattle.theory.specs.Turn.{Puts}
 use Rattle.residual.specs.declared.Shape.{Shape}

@@ -24,7 +24,8 @@ use native.Mathlib.Nat.{le-refl}
 use native.Mathlib.Omega.{arith}
 use lib.ListN.{length}
 use Rattle.theory.specs.Incidence.{size}
-use Rattle.theory.specs.Network.{Network, Formed}
+use Rattle.theory.specs.Network.{Network}
+use Rattle.theory.specs.Formed.{Formed}
 use Rattle.theory.specs.Level.{count, Counts, Ordered}
 use Rattle.theory.specs.Residual.{Residual, Arc, Cut}
 use Rattle.theory.specs.Turn.{Flipped}

@@ -24,6 +24,7 @@ use Rattle.theory.specs.Network.{Network, Instance}
 use Rattle.theory.specs.Priority as priority
 use Rattle.claimfile.specs.declared.Layout.{Layout}
 use Rattle.claimfile.specs.Day as day
+use Rattle.claimfile.specs.Sound.{Sound}
 use Rattle.residual.specs.declared.Shape.{Shape}
 use Rattle.residual.specs.Map.{spares, parents, cardNodes, shopNodes, weights}
 use Rattle.residual.specs.Map.{spareOf, parentOf, cardOf, shopOf, weightOf, Room, Keeps}
@@ -44,7 +45,7 @@ pub record Tabled (i : Instance) (sh : Shape) (t : List ℕ) : Type 0 where
   pub weights : (c : ℕ) → c < i .net .rows → weightOf sh t c ≡ priority.weightOf (i .net .rows) (i .kind) c
 
 pub record Given (s : List ℕ) (l : Layout) (sh : Shape) (t : List ℕ) : Type 0 where
-  pub sound : day.Sound s l
+  pub sound : Sound s l
   pub shape : Shaped (day.networkOf s l) sh
   pub room : Room sh t
 
@@ -70,7 +71,7 @@ module _ (s : List ℕ) (l : Layout) (side first root : ℕ) where
   nodeAbove g = day.above g (day.groupOf s l side g .parent) first root
 
   pub record Hosts (sh : Shape) (t : List ℕ) : Type 0 where
-    pub sound : day.Sound s l
+    pub sound : Sound s l
     pub room : Room sh t
     pub inside : first + day.countOf l side ≤ sh .groups
     pub low : root < cellBound

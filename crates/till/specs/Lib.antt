@@ -1,3 +1,4 @@
 -- What the exported calls answer.
 pub mod Numbers
 pub mod SettleNumbers
+pub mod Version

@@ -1,8 +1,10 @@
 // The calls for the till's own program, which is in C: c/claims.h declares them.
 //
-// A slice is passed as a pointer and a length. Each call answers a struct of numbers by value. Only settle changes lent memory.
+// A slice is passed as a pointer and a length. Each call on a file answers a struct of numbers by value. Only settle changes lent memory.
+ghost use mathlib.Core.Path.{_≡_};
 ghost use Rattle.till.specs.Numbers.{FitsAndRankIs, OneMoreIs};
 ghost use Rattle.till.specs.SettleNumbers.{SettleIs};
+ghost use Rattle.till.specs.Version.{version};
 use closing::Settled;
 use closing::settle;
 use limits::OneMore;
@@ -10,6 +12,9 @@ use limits::Ranked;
 use limits::fits_and_rank;
 use limits::one_more;
 use refusal::number;
+
+// Which library this is. It rises by one with each change of a call, a needed length or an answer.
+pub const VERSION: u32 = 1;
 
 // The refusal's number and zeros where the call is turned away; else 0, 1 where the selection fits and 0 where not, and its rank.
 #[repr(C)]
@@ -97,4 +102,12 @@ pub extern "C" fn claims_settle(
             total: 0,
         },
     }
+}
+
+// The version, for a box to be asked.
+#[no_mangle]
+pub extern "C" fn claims_version() -> u32
+    ensures { λ r. ⌜ r ≡ version ⌝ }
+{
+    VERSION
 }

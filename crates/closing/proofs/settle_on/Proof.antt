@@ -8,13 +8,15 @@ use borrow.Author.Needs.{needs}
 use Rattle.claimfile.specs.Day.{networkOf, instanceOf}
 use Rattle.closing.specs.Settle.{Enough}
 use Rattle.closing.proofs.AnswerLaws.{settles-short, settles-closed, lent-parts}
+use Rattle.closing.proofs.SettleLaws.{kinds-two}
 use Rattle.closing.proofs.settle_on.Statement.{statement}
 use Rattle.closing.proofs.settle_on.Tie as tie
 
 -- past the three tests the buffers are long enough
 enough :
     (c : tie.Else3) →
-    Enough (networkOf (c .before .before .before .before .before .before .before .before .args .file .now) (c .before .before .before .before .before .before .before .before .args .layout)) (c .before .before .before .before .before .before .before .before .args .choice .now) (c .before .before .before .before .before .before .before .before .args .sheet .now) (c .before .before .before .before .before .before .before .before .args .scratch .now)
+    let a = c .before .before .before .before .before .before .before .before .args in
+    Enough (networkOf (a .file .now) (a .layout)) (a .choice .now) (a .sheet .now) (a .scratch .now)
 enough c =
     let marks = c .before .before .before .marks-of .ensures .0 in
     record {
@@ -99,9 +101,10 @@ returns-4 : tie.Need-returns-4
 returns-4 c =
     let closed = c .before .before .before .before .before .before in
     let test = closed .before .before .before .before in
-    let a = test .before .before .before .before .before .before .before .before .args in
+    let start = test .before .before .before .before .before .before .before .before in
+    let a = start .args in
     settles-closed (instanceOf (a .file .now) (a .layout)) (a .choice .now) (a .sheet .now) (a .scratch .now) _
-    (test .before .before .before .marks-of .ensures .0) _ _ _ (closed .close .kept .1 .1 .0)
+    (test .before .before .before .marks-of .ensures .0) (kinds-two _ _ (start .pre)) _ _ _ (closed .close .kept .1 .1 .0)
     (closed .close .kept .1 .1 .1 .0) (closed .close .kept .1 .1 .1 .1 .0) _ (enough test) (closed .close .ensures)
 
 pub settle-on-spec : {M : Type 1} → statement M

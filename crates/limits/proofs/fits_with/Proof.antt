@@ -4,7 +4,7 @@ use native.Mathlib.Omega.{arith}
 use borrow.Author.Tests.{not-true, not-false}
 use borrow.Author.Needs.{needs}
 use Rattle.limits.proofs.CountLaws.{zeros}
-use Rattle.limits.proofs.AnswerLaws.{with-unfit, with-in, with-asked}
+use Rattle.limits.proofs.AnswerLaws.{with-unfit, with-in, with-walked}
 use Rattle.limits.proofs.fits_with.Statement.{statement}
 use Rattle.limits.proofs.fits_with.Tie as tie
 
@@ -34,26 +34,31 @@ returns-2 c =
     with-in (a .file .now) (a .selection .now) (a .layout) (start .pre .0) (a .side) _ (risen .rise-on .result)
     (risen .rise-on .ensures) (a .row) (not-false _ (fit .if1 .left)) (c .if2 .taken)
 
+slice-aggregate-ways-of : tie.Need-slice-aggregate-ways-of
+slice-aggregate-ways-of c = search needs
+
+ways-of-requires : tie.Need-ways-of-requires
+ways-of-requires c κs = search needs
+
 hangs-at-requires : tie.Need-hangs-at-requires
 hangs-at-requires c κs = search needs
-
-slice-aggregate-has-room : tie.Need-slice-aggregate-has-room
-slice-aggregate-has-room c = search needs
 
 has-room-requires : tie.Need-has-room-requires
 has-room-requires c κs = search needs
 
 returns-3 : tie.Need-returns-3
 returns-3 c =
-    let named = c .before .before in
-    let out = named .before in
+    let named = c .before in
+    let found = named .before .before in
+    let out = found .before .before in
     let fit = out .before .before in
     let risen = fit .before .before .before in
     let start = risen .before .before .before .before in
     let a = start .args in
-    with-asked (a .file .now) (a .selection .now) (a .layout) (start .pre .0) (a .side) _ (risen .rise-on .result)
-    (risen .rise-on .ensures) (a .row) (not-false _ (fit .if1 .left)) (start .pre .1) (out .if2 .left)
-    (named .hangs-at .result) (named .hangs-at .ensures .0) (c .has-room .result) (c .has-room .ensures)
+    with-walked (a .file .now) (a .selection .now) (a .layout) (start .pre .0) (a .side) _ (risen .rise-on .result)
+    (risen .rise-on .ensures) (a .row) (not-false _ (fit .if1 .left)) (start .pre .1) (out .if2 .left) _
+    (found .ways-of .ensures) (named .hangs-at .result) (named .hangs-at .ensures .0) (c .has-room .result)
+    (c .has-room .ensures)
 
 pub fits-with-spec : {M : Type 1} → statement M
 fits-with-spec =
@@ -64,7 +69,8 @@ fits-with-spec =
     returns
     shared-slice-read-if2
     returns-2
+    slice-aggregate-ways-of
+    ways-of-requires
     hangs-at-requires
-    slice-aggregate-has-room
     has-room-requires
     returns-3)

@@ -1,7 +1,7 @@
 -- `records` meets what the readers ask: an accepted file is sound.
 use mathlib.Core.Path.{sym, _∙_}
 use borrow.Author.Needs.{needs}
-use Rattle.claimfile.specs.Day.{Sound}
+use Rattle.claimfile.specs.Sound.{Sound}
 use Rattle.claimfile.proofs.AcceptedLaws.{accepted-sound}
 use Rattle.claimfile_test.proofs.records.records.Statement.{statement}
 use Rattle.claimfile_test.proofs.records.records.Tie as tie

@@ -1,0 +1,81 @@
+/*
+ * The deepest stack of a call: it runs on a stack of its own, painted before, and what is no longer paint was used. What the C function
+ * takes that makes the call is in it.
+ */
+#define _GNU_SOURCE
+#include <string.h>
+#include <ucontext.h>
+#include "stack.h"
+
+enum { STACK = 1 << 17, PAINT = 0xa5 };
+
+static uint8_t stack[STACK];
+static ucontext_t home, away;
+
+/* What is made next on the painted stack: the call, the day and the selection. */
+static const struct call *made;
+static struct file day;
+static uint8_t selection[MOST_ROWS];
+
+static void make(void) { made->make(&day, selection); }
+
+static void make_on_paint(void) {
+    getcontext(&away);
+    away.uc_stack.ss_sp = stack;
+    away.uc_stack.ss_size = STACK;
+    away.uc_link = &home;
+    makecontext(&away, make, 0);
+    swapcontext(&home, &away);
+}
+
+/* With no row selected, with the rows that settle keeps, and with all rows. */
+static void make_on_day(void) {
+    static struct outcome kept;
+    ours_settle(day.bytes, day.length, &kept);
+    memset(selection, 0, sizeof selection);
+    make_on_paint();
+    memcpy(selection, kept.choice, sizeof selection);
+    make_on_paint();
+    memset(selection, 1, sizeof selection);
+    make_on_paint();
+}
+
+/* Limits under which every row fits, half of the rows, and none. */
+static void make_on_chains(void) {
+    static const unsigned limits[] = {TOP, MOST_ROWS / 2, 0};
+    for (unsigned k = 0; k < sizeof limits / sizeof *limits; k++) {
+        struct day d = chain_day(limits[k]);
+        write_day(&d, &day);
+        make_on_day();
+    }
+}
+
+static void make_on_days(void) {
+    for (unsigned family = 0; family < FAMILIES; family++)
+        for (unsigned number = 0; number < DAYS; number++) {
+            make_day(family, MOST_ROWS, number, &day);
+            make_on_day();
+        }
+}
+
+/* How many bytes of the painted stack a call used. */
+static unsigned depth_of(const struct call *call, void (*on)(void)) {
+    unsigned untouched = 0;
+    memset(stack, PAINT, STACK);
+    made = call;
+    on();
+    while (untouched < STACK && stack[untouched] == PAINT) untouched++;
+    return STACK - untouched;
+}
+
+static void make_nothing(const struct file *file, const uint8_t *selected) {
+    (void)file;
+    (void)selected;
+}
+
+/* What the change of stacks takes by itself is not counted. */
+struct depths stack_of(const struct call *call) {
+    static const struct call nothing = {"nothing", make_nothing};
+    unsigned base = depth_of(&nothing, make_on_paint);
+    return (struct depths){depth_of(call, make_on_chains) - base, depth_of(call, make_on_days) - base};
+}

@@ -1,0 +1,71 @@
+/*
+ * A small till: it settles one claim file and prints which rows are kept.
+ *
+ *     gcc -O2 -Ic c/example.c target/staticlib/libtill.a -o example
+ *     ./example samples/day_a.claims          or          ./example < samples/day_a.claims
+ *
+ * How to read it. What stands between these marks is a comment. `#include` brings in the names that another file declares: claims.h has
+ * the library's. The program begins at `main` and goes from line to line; `if` and `for` say which lines, and how often. `x[n]` is a list
+ * of n cells where it is declared, and cell n of it, counted from 0, elsewhere. `printf` prints a text; each %u in it stands for a number
+ * and each %s for a word.
+ *
+ * The exit status is 0 where the file is settled, 1 where it is refused and 2 where there is none to read.
+ */
+#include <stdio.h>
+#include "claims.h"
+
+/*
+ * The memory that is lent to the library, enough for every file there can be. It is set aside before the program begins and holds zeros
+ * then. The file has one byte more than the longest one, so that a file that is too long is seen.
+ */
+static uint8_t file[CLAIMS_LONGEST_FILE + 1];
+static uint8_t choice[CLAIMS_LONGEST_CHOICE];
+static uint32_t sheet[CLAIMS_LONGEST_SHEET];
+static uint32_t scratch[CLAIMS_LONGEST_SCRATCH];
+
+/* What each refusal means. */
+static const char *const meaning[] = {
+    [CLAIMS_CUT_OFF] = "the file ends before or inside a count or record that is due",
+    [CLAIMS_GROUP_COUNT] = "a group count is over 256",
+    [CLAIMS_PARENT] = "a parent is neither smaller than the group's own number nor 65535",
+    [CLAIMS_CLAIM_COUNT] = "the claim count is over 512",
+    [CLAIMS_NO_SUCH_GROUP] = "a claim names a group that its section lacks",
+    [CLAIMS_KIND] = "a kind is neither 0 nor 1",
+    [CLAIMS_TRAILING] = "bytes follow the last claim",
+    [CLAIMS_SHORT] = "a lent buffer or selection is shorter than needed",
+    [CLAIMS_VALUE] = "a selection byte is over 1, a side is over 1, or a row is not below N",
+};
+
+int main(int count, char **words) {
+    /* This program was written for one version of the library, and may be linked with another. */
+    if (claims_version() != CLAIMS_VERSION) {
+        fprintf(stderr, "the library has version %u, and this program needs %u\n", (unsigned)claims_version(), CLAIMS_VERSION);
+        return 2;
+    }
+
+    /* The first word after the program's own name is the file's; where there is none, the file comes by standard input. */
+    FILE *from = count > 1 ? fopen(words[1], "rb") : stdin;
+    size_t length = from == NULL ? 0 : fread(file, 1, sizeof file, from);
+    if (from == NULL || ferror(from)) {
+        perror("the claim file");
+        return 2;
+    }
+
+    /* The call: the file, then each lent buffer, each with its length. */
+    struct claims_settle_answer answer = claims_settle(
+        file, length,
+        choice, CLAIMS_LONGEST_CHOICE,
+        sheet, CLAIMS_LONGEST_SHEET,
+        scratch, CLAIMS_LONGEST_SCRATCH);
+
+    if (answer.refusal != 0) {
+        printf("refused %u: %s\n", (unsigned)answer.refusal, meaning[answer.refusal]);
+        return 1;
+    }
+
+    /* The choice holds 1 for each kept row. Past the file's last row the library changes nothing: zeros stand there. */
+    for (unsigned row = 0; row < CLAIMS_MOST_CLAIMS; row++)
+        if (choice[row] == 1) printf("row %u is kept\n", row);
+    printf("earned %u kept %u total %u\n", (unsigned)answer.earned, (unsigned)answer.kept, (unsigned)answer.total);
+    return 0;
+}

@@ -1,0 +1,67 @@
+/* Tests of claims.h itself: the version, and that the needed lengths are those that its macros give. */
+#include "claims.h"
+#include "day.h"
+
+static struct file file;
+static uint8_t choice[CLAIMS_LONGEST_CHOICE];
+static uint32_t sheet[CLAIMS_LONGEST_SHEET], scratch[CLAIMS_LONGEST_SCRATCH];
+static const uint8_t no_row[CLAIMS_LONGEST_SELECTION];
+
+/* The refusal of a call on the file, which is that of the day. Settle has buffers so many cells shorter than the macros say. */
+static unsigned settled_with(const struct day *d, size_t choice_less, size_t sheet_less, size_t scratch_less) {
+    unsigned groups = d->groups[CARD] + d->groups[SHOP];
+    struct claims_settle_answer r = claims_settle(
+        file.bytes, file.length,
+        choice, CLAIMS_CHOICE_LENGTH(d->rows) - choice_less,
+        sheet, CLAIMS_SHEET_LENGTH(groups, d->rows) - sheet_less,
+        scratch, CLAIMS_SCRATCH_LENGTH(groups, d->rows) - scratch_less);
+    return r.refusal;
+}
+
+/* The other calls, with a selection of that length in which no row is selected. */
+static unsigned ranked_with(size_t length) {
+    return claims_fits_and_rank(file.bytes, file.length, no_row, length, CLAIMS_CARD).refusal;
+}
+
+static unsigned one_more_with(size_t length) { return claims_one_more(file.bytes, file.length, no_row, length, 0).refusal; }
+
+/* The lengths suffice, and no call takes a shorter one. */
+static void lengths(const struct day *d) {
+    size_t selection = CLAIMS_SELECTION_LENGTH(d->rows);
+    write_day(d, &file);
+    expect(settled_with(d, 0, 0, 0) == 0, "settle with the needed lengths");
+    expect(ranked_with(selection) == 0, "fits and rank with the needed length");
+    expect(settled_with(d, 0, 1, 0) == CLAIMS_SHORT, "a sheet one short");
+    expect(settled_with(d, 0, 0, 1) == CLAIMS_SHORT, "a scratch one short");
+    if (d->rows == 0) return;
+    expect(one_more_with(selection) == 0, "one more with the needed length");
+    expect(settled_with(d, 1, 0, 0) == CLAIMS_SHORT, "a choice one short");
+    expect(ranked_with(selection - 1) == CLAIMS_SHORT, "fits and rank with a selection one short");
+    expect(one_more_with(selection - 1) == CLAIMS_SHORT, "one more with a selection one short");
+}
+
+static struct day largest_day(void) {
+    struct day d = flat_day(CLAIMS_MOST_GROUPS, 1, CLAIMS_MOST_GROUPS, 1);
+    draw_rows(&d, CLAIMS_MOST_CLAIMS, 2);
+    return d;
+}
+
+int main(void) {
+    start_numbers(20270302);
+    expect(claims_version() == CLAIMS_VERSION, "the library's version is the header's");
+
+    expect(CLAIMS_MOST_GROUPS == MOST_GROUPS && CLAIMS_MOST_CLAIMS == MOST_ROWS, "the most groups and claims");
+    expect(CLAIMS_LONGEST_SELECTION == CLAIMS_SELECTION_LENGTH(CLAIMS_MOST_CLAIMS), "the longest selection");
+    expect(CLAIMS_LONGEST_CHOICE == CLAIMS_CHOICE_LENGTH(CLAIMS_MOST_CLAIMS), "the longest choice");
+    expect(CLAIMS_LONGEST_SHEET == CLAIMS_SHEET_LENGTH(2 * CLAIMS_MOST_GROUPS, CLAIMS_MOST_CLAIMS), "the longest sheet");
+    expect(CLAIMS_LONGEST_SCRATCH == CLAIMS_SCRATCH_LENGTH(2 * CLAIMS_MOST_GROUPS, CLAIMS_MOST_CLAIMS), "the longest scratch");
+
+    struct day d = largest_day();
+    lengths(&d);
+    expect(file.length == CLAIMS_LONGEST_FILE, "the longest file");
+    for (int n = 0; n < 100; n++) {
+        d = random_day(20, 40);
+        lengths(&d);
+    }
+    return all_done();
+}
