@@ -39,6 +39,11 @@ static void make_one_more(const struct file *day, const uint8_t *selection) {
     for (unsigned row = 0; row < MOST_ROWS; row++) claims_one_more(day->bytes, day->length, selection, MOST_ROWS, row);
 }
 
+static void make_slip(const struct file *day, const uint8_t *selection) {
+    static uint8_t slip[CLAIMS_LONGEST_SLIP];
+    claims_write_slip(day->bytes, day->length, selection, MOST_ROWS, slip, CLAIMS_LONGEST_SLIP);
+}
+
 static void make_version(const struct file *day, const uint8_t *selection) {
     (void)day, (void)selection;
     claims_version();
@@ -48,6 +53,7 @@ const struct call calls[] = {
     {"claims_settle", make_settle},
     {"claims_fits_and_rank", make_fits_and_rank},
     {"claims_one_more", make_one_more},
+    {"claims_write_slip", make_slip},
     {"claims_version", make_version},
 };
 const unsigned call_count = sizeof calls / sizeof *calls;

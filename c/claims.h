@@ -5,8 +5,8 @@
  * address. Of the C library it needs memset and memcpy at most. It has no variables of its own and uses no heap; docs/PERFORMANCE.md says
  * how much code it has and how much stack it takes.
  *
- * The calls keep no state. Only claims_settle changes memory that is lent to it, and only where it answers no refusal. Calls may be made
- * from several threads at once, where what they are lent to change is not shared.
+ * The calls keep no state. Only claims_settle and claims_write_slip change memory that is lent to them, and only where they answer no
+ * refusal. Calls may be made from several threads at once, where what they are lent to change is not shared.
  *
  * A pointer must not be null, even where the length beside it is 0, and as many elements must stand there as the length says. Buffers
  * that are lent to one call do not overlap.
@@ -25,7 +25,7 @@ extern "C" {
  * The version: which library this header describes. It rises by one with each release that changes a call, a needed length or an answer.
  * claims_version() tells the version of the library that a program is linked with.
  */
-#define CLAIMS_VERSION 1u
+#define CLAIMS_VERSION 2u
 
 /* The most that a file may hold. */
 #define CLAIMS_MOST_GROUPS 256u   /* in one section, card groups or shop groups */
@@ -33,19 +33,22 @@ extern "C" {
 #define CLAIMS_LONGEST_FILE 4614u /* bytes: all three sections are full */
 
 /*
- * The lengths that a call needs, counted in elements: bytes of a selection and of the choice, numbers of 32 bits of the sheet and of the
- * scratch. `claims` is the file's number of claims, and `groups` that of its card groups and shop groups together.
+ * The lengths that a call needs, counted in elements: bytes of a selection, of the choice and of the slip, numbers of 32 bits of the sheet and
+ * of the scratch. `claims` is the file's number of claims, `groups` that of its card groups and shop groups together, and `kept` that of
+ * the selection's bytes that are 1.
  */
 #define CLAIMS_SELECTION_LENGTH(claims) (claims)
 #define CLAIMS_CHOICE_LENGTH(claims) (claims)
 #define CLAIMS_SHEET_LENGTH(groups, claims) ((groups) + (claims))
 #define CLAIMS_SCRATCH_LENGTH(groups, claims) (8u * ((groups) + (claims)))
+#define CLAIMS_SLIP_LENGTH(kept) (33u * ((kept) + 1u))
 
 /* The same at most: buffers of these lengths serve every file. */
 #define CLAIMS_LONGEST_SELECTION 512u
 #define CLAIMS_LONGEST_CHOICE 512u
 #define CLAIMS_LONGEST_SHEET 1024u
 #define CLAIMS_LONGEST_SCRATCH 8192u
+#define CLAIMS_LONGEST_SLIP 16929u
 
 /* The two sides of a day. */
 #define CLAIMS_CARD 0u
@@ -84,6 +87,12 @@ struct claims_settle_answer {
     uint64_t earned;  /* how many of the kept rows are earned */
     uint64_t kept;    /* how many rows are kept */
     uint64_t total;   /* the sheet's total, which is the weight of the kept rows */
+};
+
+/* What claims_write_slip answers. */
+struct claims_write_slip_answer {
+    uint32_t refusal; /* 0, or the number of the reason why the call is turned away; the other field is 0 then */
+    uint64_t length;  /* how many bytes were written: 33 for each kept row and for the first line */
 };
 
 /* The version of the library. Where it is not CLAIMS_VERSION, this header describes another one. */
@@ -128,6 +137,27 @@ struct claims_settle_answer claims_settle(
     uint8_t *choice, size_t choice_length,
     uint32_t *sheet, size_t sheet_length,
     uint32_t *scratch, size_t scratch_length);
+
+/*
+ * Writes the slip for the counter, a text for a roll of 32 columns: which rows a selection keeps. The selection need not fit any limit.
+ * Every line has 32 printable ASCII characters and a line feed; no byte 0 follows the text. The first line has the number of claims, of
+ * kept earned rows and of kept rows; then comes a line for each kept row, in row order, with the row, its card group, its shop group and
+ * EARNED or PLAIN. Of three claims with row 0 kept:
+ *
+ *     CLAIMS    3EARNED    1KEPT     1
+ *            0       0       0  EARNED
+ *
+ * The length of the selection and that of the slip are judged (8) before the selection's bytes (9). A longer slip is accepted; what lies
+ * past the written length is neither read nor changed. Where a refusal is answered, no byte is changed.
+ *
+ * file, file_length              the claim file
+ * selection, selection_length    one byte a row: 1 where the row is kept, else 0. Bytes past the last row are not read
+ * slip, slip_length              CLAIMS_SLIP_LENGTH(kept) bytes at least, where kept is how many bytes of the selection, one a row, are 1
+ */
+struct claims_write_slip_answer claims_write_slip(
+    const uint8_t *file, size_t file_length,
+    const uint8_t *selection, size_t selection_length,
+    uint8_t *slip, size_t slip_length);
 
 #ifdef __cplusplus
 }

@@ -5,6 +5,7 @@
 static struct file file;
 static uint8_t choice[CLAIMS_LONGEST_CHOICE];
 static uint32_t sheet[CLAIMS_LONGEST_SHEET], scratch[CLAIMS_LONGEST_SCRATCH];
+static uint8_t slip[CLAIMS_LONGEST_SLIP];
 static const uint8_t no_row[CLAIMS_LONGEST_SELECTION];
 
 /* The refusal of a call on the file, which is that of the day. Settle has buffers so many cells shorter than the macros say. */
@@ -25,18 +26,25 @@ static unsigned ranked_with(size_t length) {
 
 static unsigned one_more_with(size_t length) { return claims_one_more(file.bytes, file.length, no_row, length, 0).refusal; }
 
+static unsigned slip_with(size_t length, size_t slip_length) {
+    return claims_write_slip(file.bytes, file.length, no_row, length, slip, slip_length).refusal;
+}
+
 /* The lengths suffice, and no call takes a shorter one. */
 static void lengths(const struct day *d) {
     size_t selection = CLAIMS_SELECTION_LENGTH(d->rows);
     write_day(d, &file);
     expect(settled_with(d, 0, 0, 0) == 0, "settle with the needed lengths");
     expect(ranked_with(selection) == 0, "fits and rank with the needed length");
+    expect(slip_with(selection, CLAIMS_SLIP_LENGTH(0)) == 0, "the slip with the needed lengths");
+    expect(slip_with(selection, CLAIMS_SLIP_LENGTH(0) - 1) == CLAIMS_SHORT, "a slip one short");
     expect(settled_with(d, 0, 1, 0) == CLAIMS_SHORT, "a sheet one short");
     expect(settled_with(d, 0, 0, 1) == CLAIMS_SHORT, "a scratch one short");
     if (d->rows == 0) return;
     expect(one_more_with(selection) == 0, "one more with the needed length");
     expect(settled_with(d, 1, 0, 0) == CLAIMS_SHORT, "a choice one short");
     expect(ranked_with(selection - 1) == CLAIMS_SHORT, "fits and rank with a selection one short");
+    expect(slip_with(selection - 1, CLAIMS_LONGEST_SLIP) == CLAIMS_SHORT, "the slip with a selection one short");
     expect(one_more_with(selection - 1) == CLAIMS_SHORT, "one more with a selection one short");
 }
 
@@ -55,6 +63,7 @@ int main(void) {
     expect(CLAIMS_LONGEST_CHOICE == CLAIMS_CHOICE_LENGTH(CLAIMS_MOST_CLAIMS), "the longest choice");
     expect(CLAIMS_LONGEST_SHEET == CLAIMS_SHEET_LENGTH(2 * CLAIMS_MOST_GROUPS, CLAIMS_MOST_CLAIMS), "the longest sheet");
     expect(CLAIMS_LONGEST_SCRATCH == CLAIMS_SCRATCH_LENGTH(2 * CLAIMS_MOST_GROUPS, CLAIMS_MOST_CLAIMS), "the longest scratch");
+    expect(CLAIMS_LONGEST_SLIP == CLAIMS_SLIP_LENGTH(CLAIMS_MOST_CLAIMS), "the longest slip");
 
     struct day d = largest_day();
     lengths(&d);

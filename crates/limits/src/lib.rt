@@ -246,7 +246,7 @@ pub fn one_more_on(file: &[u8], layout: Layout, row: usize, selection: &[u8]) ->
 }
 
 // Whether each of the first `rows` bytes of a selection is 0 or 1.
-fn all_bits(selection: &[u8], rows: usize) -> bool
+pub fn all_bits(selection: &[u8], rows: usize) -> bool
     requires { ⌜ rows ≤ length (now selection) ⌝ }
     ensures { λ r. ⌜ r ≡ bits rows (now (selection .entry)) ⌝ }
 {

@@ -1,22 +1,28 @@
--- Laws of decimal digits, and of one of two words.
+-- Laws of decimal digits, of one of two words, and of fields of a given width.
 --   digits-small, digits-more, digits-enough   the digits by so many divisions: one, one more, and enough are enough
 --   decimal-small          a number below 10 is one digit
 --   decimal-more           any other is the digits of its tenth and its last digit
 --   decimal-length, decimal-more-length   how many digits: at most k below 10 to the power k, and one more than the tenth's
 --   pick-length            one of two words is no longer than both may be
+--   blanks-more, blanks-length   one blank more, and how many there are
+--   right-length, spread-length  what is no wider than its field fills it
+--   print-append, print-blanks, print-decimal, print-right, print-spread    what consists of printable characters
 --   valueFrom, decimal-value   the number that digits stand for; those of n stand for n
 --   decimal-first          a number that is not 0 does not start with the digit 0
 use mathlib.Core.Path.{_≡_, refl, sym, ap, _∙_}
 use Prim.Native.Nat.{ℕ, zero, suc, _+_, _-_, _*_, _/_, _%_, _^_, _≤_, _<_}
-use mathlib.Core.Bool.{Bool, true, false}
+use mathlib.Core.Bool.{Bool, true, false, _&&_}
 use mathlib.Core.List.{List, [], _∷_, _++_}
 use native.Mathlib.Nat.{pow-suc}
+use native.Mathlib.Numerals.{add-one}
 use native.Mathlib.Decide.{decLt}
 use native.Mathlib.Omega.{arith}
-use borrow.Author.Tests.{lt-ltb, le-ltb}
+use borrow.Author.Tests.{lt-ltb, le-ltb, le-leb}
+use lib.Dec.{leb}
 use lib.ListN.{length, getD, length-append}
 use Rattle.theory.specs.Sum.{pick}
-use Rattle.text.specs.Text.{lastDigit, digitsBy, decimal}
+use Rattle.theory.proofs.TestLaws.{and-true, true-and}
+use Rattle.text.specs.Text.{ascii, lastDigit, digitsBy, decimal, printable, blanks, atRight, spread}
 
 digits-small : (f n : ℕ) → n < 10 → digitsBy f n ≡ lastDigit n ∷ []
 unfolding digitsBy
@@ -69,6 +75,67 @@ decimal-length (suc k) n h =
 pub pick-length : (t : Bool) (a b : List ℕ) (m : ℕ) → length a ≤ m → length b ≤ m → length (pick t a b) ≤ m
 pick-length true a b m ha hb = ha
 pick-length false a b m ha hb = hb
+
+pub blanks-more : (n : ℕ) → blanks (n + 1) ≡ blanks n ++ ascii " "
+unfolding blanks
+blanks-more n = rw add-one
+
+pub blanks-length : (n : ℕ) → length (blanks n) ≡ n
+unfolding blanks
+blanks-length zero = refl
+blanks-length (suc n) = simp length-append (omega (arith, blanks-length n))
+
+pub right-length : (width : ℕ) (b : List ℕ) → length b ≤ width → length (atRight width b) ≡ width
+right-length width b h = simp length-append (omega (arith, blanks-length (width - length b)))
+
+pub spread-length : (width : ℕ) (w b : List ℕ) → length w + length b ≤ width → length (spread width w b) ≡ width
+spread-length width w b h =
+    omega (
+      arith,
+      length-append w (atRight (width - length w) b),
+      right-length (width - length w) b (omega arith),
+    )
+
+--------------------------------------------------------------------------------
+-- Printable characters
+
+pub print-append : (a b : List ℕ) → printable a ≡ true → printable b ≡ true → printable (a ++ b) ≡ true
+print-append [] b p q = q
+print-append (x ∷ a) b p q =
+    let r = and-true (leb 32 x && leb x 126) (printable a) p in
+    true-and (leb 32 x && leb x 126) (printable (a ++ b)) (r .0) (print-append a b (r .1) q)
+
+pub print-blanks : (n : ℕ) → printable (blanks n) ≡ true
+unfolding blanks
+print-blanks zero = refl
+print-blanks (suc n) = print-append (blanks n) (ascii " ") (print-blanks n) refl
+
+print-digit : (n : ℕ) → printable (lastDigit n ∷ []) ≡ true
+print-digit n =
+    let d = lastDigit n in
+    true-and (leb 32 d && leb d 126) true
+    (true-and (leb 32 d) (leb d 126) (le-leb 32 d (omega arith)) (le-leb d 126 (omega arith))) refl
+
+print-digits : (f n : ℕ) → printable (digitsBy f n) ≡ true
+unfolding digitsBy
+print-digits zero n = print-digit n
+print-digits (suc f) n =
+    elim (decLt n 10) [
+      | yes h ↦ rw (lt-ltb n 10 h) (print-digit n)
+      | no h ↦
+          rw (le-ltb n 10 (omega arith))
+          (print-append (digitsBy f (n / 10)) (lastDigit n ∷ []) (print-digits f (n / 10)) (print-digit n))
+    ]
+
+pub print-decimal : (n : ℕ) → printable (decimal n) ≡ true
+unfolding decimal
+print-decimal n = print-digits n n
+
+pub print-right : (width : ℕ) (b : List ℕ) → printable b ≡ true → printable (atRight width b) ≡ true
+print-right width b p = print-append (blanks (width - length b)) b (print-blanks (width - length b)) p
+
+pub print-spread : (width : ℕ) (w b : List ℕ) → printable w ≡ true → printable b ≡ true → printable (spread width w b) ≡ true
+print-spread width w b p q = print-append w (atRight (width - length w) b) p (print-right (width - length w) b q)
 
 --------------------------------------------------------------------------------
 -- What `decimal` promises, said apart from its definition. No proof needs it.

@@ -4,9 +4,11 @@
 // put next begins there. The answer does not depend on the buffer's length: on a buffer that is too short it still tells how long
 // the text is. So whoever has to write a whole text or none first puts it into one cell of no use, compares the answer with the
 // length of the real buffer, and then puts it there or leaves the buffer alone. The laws `whole` and `short` say what comes of it.
+ghost use mathlib.Core.Path.{_≡_};
 ghost use mathlib.Core.List.{[], _∷_, _++_};
+ghost use Prim.Native.Nat.{_-_};
 ghost use Rattle.theory.specs.Sum.{pick};
-ghost use Rattle.text.specs.Text.{decimal, line};
+ghost use Rattle.text.specs.Text.{decimal, line, blanks, atRight, spread};
 ghost use Rattle.text.specs.Buffer.{Appended, Room};
 
 // One byte. Past the end nothing is written.
@@ -74,4 +76,48 @@ pub fn put_line(at: usize, word: &[u8], n: u64, out: &mut [u8]) -> usize
 {
     let next = put_field(at, word, n, out);
     put(next, b'\n', out)
+}
+
+// How many of `width` places are left beside `used`.
+fn gap(width: usize, used: usize) -> usize
+    ensures { λ r. ⌜ r ≡ width - used ⌝ }
+{
+    if width <= used {
+        return 0;
+    }
+    width - used
+}
+
+// `n` blanks.
+fn put_blanks(at: usize, n: usize, out: &mut [u8]) -> usize
+    requires { ⌜ Room at (blanks n) ⌝ }
+    ensures { λ r. ⌜ Appended (now (out .entry)) (now (out .exit)) at r (blanks n) ⌝ }
+{
+    let mut next = at;
+    let mut i = 0;
+    while i < n {
+        next = put(next, b' ', out);
+        i += 1;
+    }
+    next
+}
+
+// A number at the right of a field of `width` bytes, after blanks. A cell of no use tells how many digits it has.
+pub fn put_right(at: usize, width: usize, n: u64, out: &mut [u8]) -> usize
+    requires { ⌜ Room at (atRight width (decimal n)) ⌝ }
+    ensures { λ r. ⌜ Appended (now (out .entry)) (now (out .exit)) at r (atRight width (decimal n)) ⌝ }
+{
+    let mut unused = [0u8; 1];
+    let digits = put_decimal(0, n, &mut unused);
+    let next = put_blanks(at, gap(width, digits), out);
+    put_decimal(next, n, out)
+}
+
+// A word at the left and a number at the right of a field of `width` bytes, blanks between.
+pub fn put_spread(at: usize, width: usize, word: &[u8], n: u64, out: &mut [u8]) -> usize
+    requires { ⌜ Room at (spread width (now word) (decimal n)) ⌝ }
+    ensures { λ r. ⌜ Appended (now (out .entry)) (now (out .exit)) at r (spread width (now (word .entry)) (decimal n)) ⌝ }
+{
+    let next = put_word(at, word, out);
+    put_right(next, gap(width, word.len()), n, out)
 }

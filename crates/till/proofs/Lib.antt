@@ -1,3 +1,4 @@
 -- Laws of the exported calls.
 pub mod NumberLaws
 pub mod SettleNumberLaws
+pub mod SlipNumberLaws

@@ -1,4 +1,5 @@
 -- What the exported calls answer.
 pub mod Numbers
 pub mod SettleNumbers
+pub mod SlipNumbers
 pub mod Version

@@ -1,9 +1,10 @@
 // The calls for the till's own program, which is in C: c/claims.h declares them.
 //
-// A slice is passed as a pointer and a length. Each call on a file answers a struct of numbers by value. Only settle changes lent memory.
+// A slice is passed as a pointer and a length. Each call on a file answers a struct of numbers by value. Only settle and the slip change lent memory.
 ghost use mathlib.Core.Path.{_≡_};
 ghost use Rattle.till.specs.Numbers.{FitsAndRankIs, OneMoreIs};
 ghost use Rattle.till.specs.SettleNumbers.{SettleIs};
+ghost use Rattle.till.specs.SlipNumbers.{WriteSlipIs};
 ghost use Rattle.till.specs.Version.{version};
 use closing::Settled;
 use closing::settle;
@@ -12,9 +13,11 @@ use limits::Ranked;
 use limits::fits_and_rank;
 use limits::one_more;
 use refusal::number;
+use slip::Slip;
+use slip::write_slip;
 
 // Which library this is. It rises by one with each change of a call, a needed length or an answer.
-pub const VERSION: u32 = 1;
+pub const VERSION: u32 = 2;
 
 // The refusal's number and zeros where the call is turned away; else 0, 1 where the selection fits and 0 where not, and its rank.
 #[repr(C)]
@@ -39,6 +42,13 @@ pub struct SettleAnswer {
     pub earned: u64,
     pub kept: u64,
     pub total: u64,
+}
+
+// The refusal's number and 0 where the call is turned away; else 0, and how many bytes were written.
+#[repr(C)]
+pub struct WriteSlipAnswer {
+    pub refusal: u32,
+    pub length: u64,
 }
 
 // Whether a selection fits a side (0 card, 1 shop), and its rank there.
@@ -100,6 +110,28 @@ pub extern "C" fn claims_settle(
             earned: 0,
             kept: 0,
             total: 0,
+        },
+    }
+}
+
+// Writes the slip of the rows that a selection keeps.
+#[no_mangle]
+pub extern "C" fn claims_write_slip(
+    file: &[u8],
+    selection: &[u8],
+    slip: &mut [u8],
+) -> WriteSlipAnswer
+    ensures { λ r. ⌜ WriteSlipIs (now (file .entry)) (now (selection .entry)) (now (slip .entry)) (now (slip .exit)) r ⌝ }
+{
+    let written = write_slip(file, selection, slip);
+    match written {
+        Slip::Written(length) => WriteSlipAnswer {
+            refusal: 0,
+            length: length as u64,
+        },
+        Slip::Refused(why) => WriteSlipAnswer {
+            refusal: number(why),
+            length: 0,
         },
     }
 }

@@ -1,0 +1,164 @@
+/*
+ * Tests of claims_write_slip: the refusals and their order, day A, and random days and selections against a slip that snprintf makes from
+ * the day's tables. Buffers are exact, one short and longer, and hold other bytes before each call.
+ */
+#include <stdio.h>
+#include <string.h>
+#include "claims.h"
+#include "day.h"
+
+enum { WIDTH = 33, PAST = 5, SLIP_CELLS = CLAIMS_LONGEST_SLIP + PAST };
+
+static struct file file;
+static uint8_t selection[MOST_ROWS + PAST], slip[SLIP_CELLS];
+static char must[SLIP_CELLS + 1];
+
+/* What a cell holds before a call. It differs from call to call. */
+static unsigned turn;
+static uint8_t filler(size_t i) { return (uint8_t)((i + turn) * 2654435761u >> 13); }
+
+static struct claims_write_slip_answer write_in(size_t selected, size_t cells) {
+    turn++;
+    for (size_t i = 0; i < SLIP_CELLS; i++) slip[i] = filler(i);
+    return claims_write_slip(file.bytes, file.length, selection, selected, slip, cells);
+}
+
+/* Whether the cells from a place on hold what they held before. */
+static int untouched(size_t from) {
+    for (size_t i = from; i < SLIP_CELLS; i++)
+        if (slip[i] != filler(i)) return 0;
+    return 1;
+}
+
+static void turned_away(const char *what, size_t selected, size_t cells, unsigned number) {
+    struct claims_write_slip_answer r = write_in(selected, cells);
+    expect(r.refusal == number && r.length == 0 && untouched(0), "%s: %u, but must be %u", what, (unsigned)r.refusal, number);
+}
+
+/* The slip of a day, and its length. Each line is first made by itself. */
+static size_t made(const struct day *d) {
+    char line[64];
+    size_t length = 0;
+    unsigned kept = 0, earned = 0;
+    for (unsigned c = 0; c < d->rows; c++)
+        if (selection[c] == 1) kept++, earned += d->kind[c] == 1;
+    snprintf(line, sizeof line, "CLAIMS%5uEARNED%5uKEPT%6u\n", d->rows, earned, kept);
+    for (unsigned c = 0;; c++) {
+        length += (size_t)snprintf(must + length, sizeof must - length, "%s", line);
+        while (c < d->rows && selection[c] != 1) c++;
+        if (c >= d->rows) return length;
+        snprintf(line, sizeof line, "%8u%8u%8u%8s\n", c, (unsigned)d->group[CARD][c], (unsigned)d->group[SHOP][c],
+                 d->kind[c] ? "EARNED" : "PLAIN");
+    }
+}
+
+/* The slip in a buffer of so many cells. */
+static void written(const struct day *d, size_t cells, const char *what) {
+    size_t length = made(d);
+    struct claims_write_slip_answer r = write_in(d->rows, cells);
+    expect(r.refusal == 0 && r.length == length, "%s: the answer", what);
+    expect(memcmp(slip, must, length) == 0, "%s: the text", what);
+    expect(untouched(length), "%s: the cells behind it", what);
+}
+
+static unsigned ones(const struct day *d) {
+    unsigned n = 0;
+    for (unsigned c = 0; c < d->rows; c++) n += selection[c] == 1;
+    return n;
+}
+
+/* A day with the selection that stands there: exact, longer, one short; and then with one byte over 1, which 8 is judged before. */
+static void tried(const struct day *d) {
+    size_t need = WIDTH * (ones(d) + 1u);
+    write_day(d, &file);
+    written(d, need, "exact");
+    written(d, need + 1 + below(PAST), "longer");
+    turned_away("one short", d->rows, need - 1, CLAIMS_SHORT);
+    turned_away("no buffer", d->rows, 0, CLAIMS_SHORT);
+    if (d->rows == 0) return;
+    turned_away("a selection one short", d->rows - 1, SLIP_CELLS, CLAIMS_SHORT);
+    selection[below(d->rows)] = (uint8_t)(2 + below(254));
+    need = WIDTH * (ones(d) + 1u);
+    turned_away("a byte over 1", d->rows, need, CLAIMS_VALUE);
+    turned_away("a byte over 1, longer", d->rows + PAST, need + PAST, CLAIMS_VALUE);
+    turned_away("a byte over 1, one short", d->rows, need - 1, CLAIMS_SHORT);
+    turned_away("a byte over 1, a selection one short", d->rows - 1, need, CLAIMS_SHORT);
+}
+
+/* Each byte is 1 as often as `of` says, in 8. Past the last row stand bytes that are not read. */
+static void draw_selection(const struct day *d, unsigned of) {
+    for (size_t c = 0; c < sizeof selection; c++) selection[c] = c < d->rows ? below(8) < of : (uint8_t)(2 + below(254));
+}
+
+static struct day day_a(void) {
+    struct day a = flat_day(2, 1, 2, 1);
+    add_row(&a, 0, 0, 1), add_row(&a, 0, 1, 0), add_row(&a, 1, 0, 0);
+    return a;
+}
+
+/* Document 02's example, byte for byte. */
+static void worked_day(void) {
+    const char text[] = "CLAIMS    3EARNED    1KEPT     1\n       0       0       0  EARNED\n";
+    struct day a = day_a();
+    write_day(&a, &file);
+    memcpy(selection, "\1\0\0", 3);
+    struct claims_write_slip_answer r = write_in(3, sizeof text - 1);
+    expect(r.refusal == 0 && r.length == 66 && memcmp(slip, text, 66) == 0 && untouched(66), "day A");
+    part_done("worked day");
+}
+
+/* The file is judged first: each faulty one comes with no selection and no buffer. */
+static void faulty_files(void) {
+    const struct {
+        const char *bytes;
+        size_t length;
+        unsigned refusal;
+    } faulty[] = {
+        {"\0", 1, CLAIMS_CUT_OFF},
+        {"\1\1", 2, CLAIMS_GROUP_COUNT},
+        {"\1\0\0\0\5\0", 6, CLAIMS_PARENT},
+        {"\0\0\0\0\1\2", 6, CLAIMS_CLAIM_COUNT},
+        {"\0\0\0\0\1\0\0\0\0\0\0", 11, CLAIMS_NO_SUCH_GROUP},
+        {"\1\0\xff\xff\1\0\1\0\xff\xff\1\0\1\0\0\0\0\0\2", 19, CLAIMS_KIND},
+        {"\0\0\0\0\0\0\0", 7, CLAIMS_TRAILING},
+    };
+    selection[0] = 2;
+    for (size_t i = 0; i < sizeof faulty / sizeof *faulty; i++) {
+        file.length = faulty[i].length;
+        memcpy(file.bytes, faulty[i].bytes, file.length);
+        turned_away("a faulty file", 0, 0, faulty[i].refusal);
+        turned_away("a faulty file, long buffers", 1, SLIP_CELLS, faulty[i].refusal);
+    }
+    part_done("faulty files");
+}
+
+static void random_days(void) {
+    for (unsigned n = 0; n < 3000; n++) {
+        struct day d = random_day(1 + below(40), below(60));
+        draw_selection(&d, below(9));
+        tried(&d);
+    }
+    part_done("random days");
+}
+
+/* All numbers of three digits: the largest days, with all, some or no rows kept. */
+static void large_days(void) {
+    for (unsigned n = 0; n < 27; n++) {
+        struct day d = flat_day(MOST_GROUPS, 1, MOST_GROUPS, 1);
+        draw_rows(&d, MOST_ROWS, 2);
+        draw_selection(&d, n % 9);
+        tried(&d);
+    }
+    struct day none = flat_day(0, 0, 0, 0);
+    tried(&none);
+    part_done("large days");
+}
+
+int main(void) {
+    start_numbers(20270303);
+    worked_day();
+    faulty_files();
+    random_days();
+    large_days();
+    return all_done();
+}

@@ -1,0 +1,5 @@
+-- Laws of the slip and of the call's answer.
+pub mod CountLaws
+pub mod SlipLaws
+pub mod LineLaws
+pub mod WriteLaws

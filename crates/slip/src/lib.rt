@@ -1,0 +1,174 @@
+// The slip for the counter's roll of 32 columns: which rows are kept, in a text that a lent buffer takes.
+//
+// `write_slip` takes any bytes and any buffer. `slip_on` does the same for a file that is accepted with a known layout. The whole slip is
+// written at the buffer's start, or nothing.
+ghost use mathlib.Core.Path.{_≡_};
+ghost use mathlib.Core.List.{_++_};
+ghost use Prim.Native.Nat.{_≤_, _<_};
+ghost use lib.ListN.{length};
+ghost use lib.Dec.{eqb};
+ghost use Rattle.theory.specs.Sum.{pick};
+ghost use Rattle.text.specs.Buffer.{Appended, Room};
+ghost use Rattle.claimfile.specs.Sound.{Sound};
+ghost use Rattle.slip.specs.Slip.{keptRows, earnedRows, firstLine, rowLine, keptLine, keptLines, slip};
+ghost use Rattle.slip.specs.Write.{Covers, WritesOn, Slips};
+use claimfile::Layout;
+use claimfile::Reading;
+use claimfile::claim_of;
+use claimfile::read;
+use limits::all_bits;
+use refusal::Reason;
+use text::put;
+use text::put_either;
+use text::put_right;
+use text::put_spread;
+
+// The bytes of a line, with its line feed.
+const WIDTH: usize = 33;
+
+// How many bytes were written, or why nothing was.
+pub enum Slip {
+    Written(usize),
+    Refused(Reason),
+}
+
+// 1 where a test holds, else 0.
+fn one(when: bool) -> usize
+    ensures { λ r. ⌜ r ≡ pick when 1 0 ⌝ }
+{
+    if when {
+        return 1;
+    }
+    0
+}
+
+// How many of the first `rows` rows are kept.
+fn kept_rows(rows: usize, selection: &[u8]) -> usize
+    requires { ⌜ rows ≤ length (now selection) ⌝ }
+    ensures { λ r. ⌜ (r ≡ keptRows rows (now (selection .entry))) × (r ≤ rows) ⌝ }
+{
+    let mut kept = 0;
+    let mut c = 0;
+    while c < rows {
+        kept += one(selection[c] == 1);
+        c += 1;
+    }
+    kept
+}
+
+// How many of the kept rows are earned.
+fn earned_rows(file: &[u8], layout: Layout, selection: &[u8]) -> usize
+    requires { ⌜ Covers (now file) layout (now selection) ⌝ }
+    ensures { λ r. ⌜ (r ≡ earnedRows (now (file .entry)) layout (layout .rows) (now (selection .entry))) × (r ≤ layout .rows) ⌝ }
+{
+    let rows = layout.rows;
+    let mut earned = 0;
+    let mut c = 0;
+    while c < rows {
+        let claim = claim_of(file, layout, c);
+        earned += one((selection[c] == 1) & (claim.kind == 1));
+        c += 1;
+    }
+    earned
+}
+
+// The first line: the rows, the earned rows kept and the rows kept.
+fn put_first(at: usize, rows: usize, earned: usize, kept: usize, out: &mut [u8]) -> usize
+    requires { ⌜ Room at (firstLine rows earned kept) ⌝ }
+    ensures { λ r. ⌜ Appended (now (out .entry)) (now (out .exit)) at r (firstLine rows earned kept) ⌝ }
+{
+    let after_rows = put_spread(at, 11, b"CLAIMS", rows as u64, out);
+    let after_earned = put_spread(after_rows, 11, b"EARNED", earned as u64, out);
+    let after_kept = put_spread(after_earned, 10, b"KEPT", kept as u64, out);
+    put(after_kept, b'\n', out)
+}
+
+// The line of row `c`, with the groups that it names.
+fn put_row(at: usize, c: usize, card: usize, shop: usize, kind: u8, out: &mut [u8]) -> usize
+    requires { ⌜ Room at (rowLine c card shop (eqb kind 1)) ⌝ }
+    ensures { λ r. ⌜ Appended (now (out .entry)) (now (out .exit)) at r (rowLine c card shop (eqb kind 1)) ⌝ }
+{
+    let after_row = put_right(at, 8, c as u64, out);
+    let after_card = put_right(after_row, 8, card as u64, out);
+    let after_shop = put_right(after_card, 8, shop as u64, out);
+    let after_kind = put_either(after_shop, kind == 1, b"  EARNED", b"   PLAIN", out);
+    put(after_kind, b'\n', out)
+}
+
+// The line of row `c` where it is kept, else nothing.
+fn put_kept(
+    file: &[u8],
+    layout: Layout,
+    at: usize,
+    c: usize,
+    selection: &[u8],
+    out: &mut [u8],
+) -> usize
+    requires { ⌜ (Covers (now file) layout (now selection)) × (c < layout .rows) ⌝ }
+    requires { ⌜ Room at (keptLine (now file) layout c (now selection)) ⌝ }
+    ensures { λ r. ⌜ Appended (now (out .entry)) (now (out .exit)) at r (keptLine (now (file .entry)) layout c (now (selection .entry))) ⌝ }
+{
+    if selection[c] != 1 {
+        return at;
+    }
+    let claim = claim_of(file, layout, c);
+    put_row(at, c, claim.card, claim.shop, claim.kind, out)
+}
+
+// The lines of the kept rows.
+fn put_rows(file: &[u8], layout: Layout, at: usize, selection: &[u8], out: &mut [u8]) -> usize
+    requires { ⌜ Covers (now file) layout (now selection) ⌝ }
+    requires { ⌜ Room at (keptLines (now file) layout (layout .rows) (now selection)) ⌝ }
+    ensures { λ r. ⌜ Appended (now (out .entry)) (now (out .exit)) at r (keptLines (now (file .entry)) layout (layout .rows) (now (selection .entry))) ⌝ }
+{
+    let rows = layout.rows;
+    let mut next = at;
+    let mut c = 0;
+    while c < rows {
+        next = put_kept(file, layout, next, c, selection, out);
+        c += 1;
+    }
+    next
+}
+
+// The whole slip, at the buffer's start.
+fn put_slip(file: &[u8], layout: Layout, kept: usize, selection: &[u8], out: &mut [u8]) -> usize
+    requires { ⌜ Covers (now file) layout (now selection) ⌝ }
+    requires { ⌜ kept ≡ keptRows (layout .rows) (now selection) ⌝ }
+    ensures { λ r. ⌜ Appended (now (out .entry)) (now (out .exit)) 0 r (slip (now (file .entry)) layout (now (selection .entry))) ⌝ }
+{
+    let earned = earned_rows(file, layout, selection);
+    let after_first = put_first(0, layout.rows, earned, kept, out);
+    put_rows(file, layout, after_first, selection, out)
+}
+
+// Writes the slip of an accepted file: 8 where the selection or the buffer is too short, 9 where a byte of the selection is over 1.
+pub fn slip_on(file: &[u8], layout: Layout, selection: &[u8], out: &mut [u8]) -> Slip
+    requires { ⌜ Sound (now file) layout ⌝ }
+    ensures { λ r. ⌜ WritesOn (now (file .entry)) layout (now (selection .entry)) (now (out .entry)) (now (out .exit)) r ⌝ }
+{
+    let rows = layout.rows;
+    if selection.len() < rows {
+        return Slip::Refused(Reason::Short);
+    }
+    let kept = kept_rows(rows, selection);
+    if out.len() < WIDTH * (kept + 1) {
+        return Slip::Refused(Reason::Short);
+    }
+    if !all_bits(selection, rows) {
+        return Slip::Refused(Reason::Value);
+    }
+    Slip::Written(put_slip(file, layout, kept, selection, out))
+}
+
+// Writes the slip of a file with a selection whose ones are the kept rows. The selection has N bytes or more, where N is the number of
+// claims, and the buffer 33 × (kept + 1) or more, where kept is how many of the N bytes are 1.
+pub fn write_slip(file: &[u8], selection: &[u8], out: &mut [u8]) -> Slip
+    ensures { λ r. ⌜ Slips (now (file .entry)) (now (selection .entry)) (now (out .entry)) (now (out .exit)) r ⌝ }
+{
+    let reading = read(file);
+    match reading {
+        Reading::Refused(why) => Slip::Refused(Reason::File(why)),
+        Reading::Accepted(layout) => slip_on(file, layout, selection, out),
+    }
+}
