@@ -35,8 +35,8 @@ static void make_fits_and_rank(const struct file *day, const uint8_t *selection)
     for (unsigned side = 0; side < 2; side++) claims_fits_and_rank(day->bytes, day->length, selection, MOST_ROWS, side);
 }
 
-static void make_one_more(const struct file *day, const uint8_t *selection) {
-    for (unsigned row = 0; row < MOST_ROWS; row++) claims_one_more(day->bytes, day->length, selection, MOST_ROWS, row);
+static void make_spare_places(const struct file *day, const uint8_t *selection) {
+    for (unsigned row = 0; row < MOST_ROWS; row++) claims_spare_places(day->bytes, day->length, selection, MOST_ROWS, row);
 }
 
 static void make_slip(const struct file *day, const uint8_t *selection) {
@@ -52,7 +52,7 @@ static void make_version(const struct file *day, const uint8_t *selection) {
 const struct call calls[] = {
     {"claims_settle", make_settle},
     {"claims_fits_and_rank", make_fits_and_rank},
-    {"claims_one_more", make_one_more},
+    {"claims_spare_places", make_spare_places},
     {"claims_write_slip", make_slip},
     {"claims_version", make_version},
 };

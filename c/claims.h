@@ -25,7 +25,7 @@ extern "C" {
  * The version: which library this header describes. It rises by one with each release that changes a call, a needed length or an answer.
  * claims_version() tells the version of the library that a program is linked with.
  */
-#define CLAIMS_VERSION 2u
+#define CLAIMS_VERSION 3u
 
 /* The most that a file may hold. */
 #define CLAIMS_MOST_GROUPS 256u   /* in one section, card groups or shop groups */
@@ -56,7 +56,7 @@ extern "C" {
 
 /*
  * Why a call is turned away: the numbers of document 01. The file is judged first (1 to 7), then the length of the selection or of the
- * lent buffers (8), then the values (9).
+ * lent buffers (8), then the values (9), then what a number says beside its line.
  */
 #define CLAIMS_CUT_OFF 1u       /* the file ends before or inside a count or record that is due */
 #define CLAIMS_GROUP_COUNT 2u   /* a group count is over 256 */
@@ -67,6 +67,7 @@ extern "C" {
 #define CLAIMS_TRAILING 7u      /* bytes follow the last claim */
 #define CLAIMS_SHORT 8u         /* a lent buffer or selection is shorter than needed */
 #define CLAIMS_VALUE 9u         /* a selection byte is over 1, the side is over 1, or the row is not below the number of claims */
+#define CLAIMS_SELECTED 10u     /* claims_spare_places: the row is already in the selection */
 
 /* What claims_fits_and_rank answers. */
 struct claims_fits_and_rank_answer {
@@ -75,10 +76,10 @@ struct claims_fits_and_rank_answer {
     uint32_t rank;    /* how many of the selected rows fit the side together, at most */
 };
 
-/* What claims_one_more answers. */
-struct claims_one_more_answer {
+/* What claims_spare_places answers. */
+struct claims_spare_places_answer {
     uint32_t refusal; /* 0, or the number of the reason why the call is turned away; the other field is 0 then */
-    uint32_t yes;     /* 1 where the selection with the row added fits both sides, else 0 */
+    uint32_t places;  /* how many further claims like the row would fit beside the selection, 0 to 65535 */
 };
 
 /* What claims_settle answers. */
@@ -111,13 +112,15 @@ struct claims_fits_and_rank_answer claims_fits_and_rank(
     uint32_t side);
 
 /*
- * Whether a selection of a file's rows with one row added fits both sides. A row that is selected already adds nothing.
+ * How many further claims like a row would fit beside a selection of a file's rows: the smallest, over all groups that the row counts in
+ * on both sides, of the group's limit less the selected rows that count there. It is 0 where the selection itself does not fit both
+ * sides. A number of 1 or more says that the selection with the row added fits both sides, and 0 that it does not.
  *
  * file, file_length              the claim file
  * selection, selection_length    one byte a row, as above
- * row                            the row that is added, counted from 0
+ * row                            a row that is not selected, counted from 0; for one that is selected the answer is refusal 10
  */
-struct claims_one_more_answer claims_one_more(
+struct claims_spare_places_answer claims_spare_places(
     const uint8_t *file, size_t file_length,
     const uint8_t *selection, size_t selection_length,
     uint32_t row);

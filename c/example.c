@@ -34,6 +34,7 @@ static const char *const meaning[] = {
     [CLAIMS_TRAILING] = "bytes follow the last claim",
     [CLAIMS_SHORT] = "a lent buffer or selection is shorter than needed",
     [CLAIMS_VALUE] = "a selection byte is over 1, a side is over 1, or a row is not below N",
+    [CLAIMS_SELECTED] = "the row is already in the selection",
 };
 
 int main(int count, char **words) {

@@ -24,7 +24,7 @@ static unsigned ranked_with(size_t length) {
     return claims_fits_and_rank(file.bytes, file.length, no_row, length, CLAIMS_CARD).refusal;
 }
 
-static unsigned one_more_with(size_t length) { return claims_one_more(file.bytes, file.length, no_row, length, 0).refusal; }
+static unsigned spare_with(size_t length) { return claims_spare_places(file.bytes, file.length, no_row, length, 0).refusal; }
 
 static unsigned slip_with(size_t length, size_t slip_length) {
     return claims_write_slip(file.bytes, file.length, no_row, length, slip, slip_length).refusal;
@@ -41,11 +41,11 @@ static void lengths(const struct day *d) {
     expect(settled_with(d, 0, 1, 0) == CLAIMS_SHORT, "a sheet one short");
     expect(settled_with(d, 0, 0, 1) == CLAIMS_SHORT, "a scratch one short");
     if (d->rows == 0) return;
-    expect(one_more_with(selection) == 0, "one more with the needed length");
+    expect(spare_with(selection) == 0, "spare places with the needed length");
     expect(settled_with(d, 1, 0, 0) == CLAIMS_SHORT, "a choice one short");
     expect(ranked_with(selection - 1) == CLAIMS_SHORT, "fits and rank with a selection one short");
     expect(slip_with(selection - 1, CLAIMS_LONGEST_SLIP) == CLAIMS_SHORT, "the slip with a selection one short");
-    expect(one_more_with(selection - 1) == CLAIMS_SHORT, "one more with a selection one short");
+    expect(spare_with(selection - 1) == CLAIMS_SHORT, "spare places with a selection one short");
 }
 
 static struct day largest_day(void) {

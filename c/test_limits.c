@@ -1,7 +1,8 @@
 /*
- * Tests of claims_fits_and_rank and claims_one_more: the refusals, worked days, and random days against the plain answers of day.h.
+ * Tests of claims_fits_and_rank and claims_spare_places: the refusals, worked days, and random days against the plain answers of day.h.
  * There a file is read by a plain reader, and the rank is found in three ways: from the last group to the first, as the library does;
- * greedily; and, on small days, by going through all subsets of the selected rows.
+ * greedily; and, on small days, by going through all subsets of the selected rows. The spare places are found in two ways: by counting
+ * the rows of each group, and by adding rows to the day until one does not fit.
  */
 #include <string.h>
 #include "claims.h"
@@ -48,12 +49,12 @@ static void ranked(const char *what, struct bytes file, struct bytes selection, 
     equal(what, told.rank, rank);
 }
 
-static void more(const char *what, struct bytes file, struct bytes selection, uint32_t row, unsigned refusal, unsigned yes) {
+static void spare(const char *what, struct bytes file, struct bytes selection, uint32_t row, unsigned refusal, unsigned places) {
     remember(file, selection);
-    struct claims_one_more_answer told = claims_one_more(file.at, file.length, selection.at, selection.length, row);
+    struct claims_spare_places_answer told = claims_spare_places(file.at, file.length, selection.at, selection.length, row);
     unchanged(file, selection);
     equal(what, told.refusal, refusal);
-    equal(what, told.yes, yes);
+    equal(what, told.places, places);
 }
 
 /* ---- Worked days ---- */
@@ -79,17 +80,20 @@ static void refusals(void) {
     };
     for (size_t i = 0; i < sizeof faulty / sizeof *faulty; i++) {
         ranked(faulty[i].what, faulty[i].file, NOTHING, 2, faulty[i].refusal, 0, 0);
-        more(faulty[i].what, faulty[i].file, NOTHING, 9, faulty[i].refusal, 0);
+        spare(faulty[i].what, faulty[i].file, NOTHING, 9, faulty[i].refusal, 0);
     }
     ranked("short, byte over 1, side over 1", DAY_A, BYTES("\1\2"), 2, CLAIMS_SHORT, 0, 0);
     ranked("byte over 1", DAY_A, BYTES("\1\2\0"), CLAIMS_CARD, CLAIMS_VALUE, 0, 0);
     ranked("side over 1", DAY_A, BYTES("\1\1\1"), 2, CLAIMS_VALUE, 0, 0);
     ranked("side far over 1", DAY_A, BYTES("\1\1\1"), 0xffffffff, CLAIMS_VALUE, 0, 0);
-    more("short, row too high", DAY_A, BYTES("\1\2"), 3, CLAIMS_SHORT, 0);
-    more("byte over 1", DAY_A, BYTES("\1\2\0"), 0, CLAIMS_VALUE, 0);
-    more("row too high", DAY_A, BYTES("\1\1\1"), 3, CLAIMS_VALUE, 0);
-    more("row far too high", DAY_A, BYTES("\1\1\1"), 0xffffffff, CLAIMS_VALUE, 0);
-    more("no row", DAY_E, NOTHING, 0, CLAIMS_VALUE, 0);
+    spare("short, row too high", DAY_A, BYTES("\1\2"), 3, CLAIMS_SHORT, 0);
+    spare("byte over 1, row selected", DAY_A, BYTES("\1\2\0"), 0, CLAIMS_VALUE, 0);
+    spare("row too high", DAY_A, BYTES("\1\1\1"), 3, CLAIMS_VALUE, 0);
+    spare("row too high, the byte past the last row is 1", DAY_A, BYTES("\0\0\0\1"), 3, CLAIMS_VALUE, 0);
+    spare("row far too high", DAY_A, BYTES("\1\1\1"), 0xffffffff, CLAIMS_VALUE, 0);
+    spare("no row", DAY_E, NOTHING, 0, CLAIMS_VALUE, 0);
+    spare("row selected", DAY_A, BYTES("\0\1\0"), 1, CLAIMS_SELECTED, 0);
+    spare("row selected, the selection does not fit", DAY_A, BYTES("\1\1\0"), 1, CLAIMS_SELECTED, 0);
     part_done("refusals");
 }
 
@@ -105,12 +109,13 @@ static void worked_days(void) {
     ranked("day A: all rows, shop", DAY_A, BYTES("\1\1\1"), CLAIMS_SHOP, 0, 0, 2);
     ranked("day E: card", DAY_E, NOTHING, CLAIMS_CARD, 0, 1, 0);
     ranked("day E: shop", DAY_E, NOTHING, CLAIMS_SHOP, 0, 1, 0);
-    more("day A: row 0 alone", DAY_A, BYTES("\0\0\0"), 0, 0, 1);
-    more("day A: row 2 beside row 1", DAY_A, BYTES("\0\1\0"), 2, 0, 1);
-    more("day A: row 0 beside row 1", DAY_A, BYTES("\0\1\0"), 0, 0, 0);
-    more("day A: row 0 beside row 2", DAY_A, BYTES("\0\0\1"), 0, 0, 0);
-    more("day A: row 1 beside itself", DAY_A, BYTES("\0\1\0"), 1, 0, 1);
-    more("day A: row 1 beside rows 0 and 1", DAY_A, BYTES("\1\1\0"), 1, 0, 0);
+    spare("day A: row 0 alone", DAY_A, BYTES("\0\0\0"), 0, 0, 1);
+    spare("day A: row 2 beside row 1", DAY_A, BYTES("\0\1\0"), 2, 0, 1);
+    spare("day A: row 0 beside row 1", DAY_A, BYTES("\0\1\0"), 0, 0, 0);
+    spare("day A: row 0 beside row 2", DAY_A, BYTES("\0\0\1"), 0, 0, 0);
+    spare("day A: row 2 beside rows 0 and 1", DAY_A, BYTES("\1\1\0"), 2, 0, 0);
+    spare("the greatest limit", BYTES("\1\0\xff\xff\xff\xff\1\0\xff\xff\xff\xff\1\0\0\0\0\0\0"), BYTES("\0"), 0, 0, 65535);
+    spare("a limit of 0", BYTES("\1\0\xff\xff\xff\xff\1\0\xff\xff\0\0\1\0\0\0\0\0\0"), BYTES("\0"), 0, 0, 0);
     part_done("worked days");
 }
 
@@ -122,7 +127,7 @@ static void lengths(void) {
         ranked("shorter than needed", DAY_A, selection, CLAIMS_CARD, CLAIMS_SHORT, 0, 0);
     for (; selection.length <= all; selection.length++) {
         ranked("as long as needed or longer", DAY_A, selection, CLAIMS_CARD, 0, 1, 2);
-        more("as long as needed or longer", DAY_A, selection, 0, 0, 0);
+        spare("as long as needed or longer", DAY_A, selection, 0, 0, 0);
     }
     part_done("lengths");
 }
@@ -146,6 +151,49 @@ static void told_as(const char *way, struct claims_fits_and_rank_answer told, st
            "refusal %u, fits %u, rank %u, but %s: fits %u, rank %u", told.refusal, told.fits, told.rank, way, found.fits, found.rank);
 }
 
+/* The places left beside a selection that fits, over all groups that a row counts in: by counting the rows of each group. */
+static unsigned places_by_counting(const struct day *d, unsigned row) {
+    unsigned least = UINT16_MAX;
+    for (unsigned side = 0; side < 2; side++)
+        for (unsigned g = d->group[side][row]; g != TOP; g = d->parent[side][g]) {
+            unsigned count = 0;
+            for (unsigned c = 0; c < d->rows; c++)
+                for (unsigned h = d->group[side][c]; h != TOP; h = d->parent[side][h]) count += selected[c] && h == g;
+            if (d->limit[side][g] - count < least) least = d->limit[side][g] - count;
+        }
+    return least;
+}
+
+/* How many rows like one of a day can be added to it and to a selection that fits, up to so many: by adding them one by one. */
+static unsigned places_by_adding(const struct day *d, unsigned row, unsigned most) {
+    struct day more = *d;
+    uint8_t with[MOST_ROWS];
+    memcpy(with, selected, d->rows);
+    while (more.rows < d->rows + most) {
+        for (unsigned side = 0; side < 2; side++) more.group[side][more.rows] = d->group[side][row];
+        more.kind[more.rows] = d->kind[row];
+        with[more.rows++] = 1;
+        if (!fits_day(&more, with)) return more.rows - 1 - d->rows;
+    }
+    return most;
+}
+
+/* The spare places of a row: 10 for one that is selected, else 0 where the selection does not fit, else what the plain ways find. */
+static void spare_against_plain(const struct day *d, struct bytes file, struct bytes selection, unsigned row) {
+    if (selected[row]) {
+        spare("a selected row", file, selection, row, CLAIMS_SELECTED, 0);
+        return;
+    }
+    if (!fits_day(d, selected)) {
+        spare("beside a selection that does not fit", file, selection, row, 0, 0);
+        return;
+    }
+    unsigned places = places_by_counting(d, row), room = MOST_ROWS - d->rows;
+    if (room > 40) room = 40;
+    spare("spare places", file, selection, row, 0, places);
+    equal("spare places, by adding", places_by_adding(d, row, room), places < room ? places : room);
+}
+
 /* The answers for a day and the selection must be the plain ones. The selection is lent with `extra` bytes more than rows. */
 static void against_plain(const struct day *d, unsigned extra) {
     static struct file f;
@@ -158,16 +206,8 @@ static void against_plain(const struct day *d, unsigned extra) {
         told_as("greedily", told, rank_greedily(d, side, selected));
         if (d->rows <= SMALL_ROWS) told_as("by search", told, rank_by_search(d, side, selected));
     }
-    if (d->rows == 0) {
-        more("one more where there is no row", file, selection, 0, CLAIMS_VALUE, 0);
-        return;
-    }
-    unsigned row = below(d->rows);
-    uint8_t before = selected[row];
-    selected[row] = 1;
-    int with = fits_day(d, selected);
-    selected[row] = before;
-    more("a plain one more", file, selection, row, 0, with);
+    spare("a row past the last", file, selection, d->rows, CLAIMS_VALUE, 0);
+    if (d->rows > 0) spare_against_plain(d, file, selection, below(d->rows));
 }
 
 /* Some selections of a day: among them few rows, or many, or all. */

@@ -1,18 +1,18 @@
 -- Laws of the way up from a group of a side.
 --   parent-lower parent-root       the parent by the number in a group's record
 --   side-rooted side-down      a side's parents make a forest
---   up-none up-in up-apart     the groups from g up: none from a root; g and those from its parent up, of which g is none
---   room-none room-up full-here full-up asked-up       whether they all have a place left
---   way-shut way-open          the way on from a group
---   WaysTo ways-step           the ways on from the groups before g, and from the next one too
---   way-full way-place way-parent      what the way on says of the group
---   walked-past walked-shut walked-up walked-top       one law for each branch of the walk
+--   up-none up-in up-apart up-own      the groups from g up: none from a root; g and those from its parent up, of which g is none
+--   UpsTo ups-step             the parents of the groups before g, and of the next one too
+--   lists-top lists-up         the groups from g up as a list: g, and those from its parent up
+--   climbed-top climbed-up     one law for each branch of the walk
+--   climbed-chain              the walk from the group where a row hangs lists the groups that it counts in
 use mathlib.Core.Path.{_≡_, sym, _∙_, ap, subst}
 use mathlib.Core.List.{List}
 use mathlib.Core.Bool.{Bool, true, false, false≢true, true≢false}
 use mathlib.Core.Logic.{inl, inr, _≢_}
 use Prim.Native.Nat.{ℕ, _+_, _≤_, _<_}
 use native.Mathlib.Decide.{ℕ-discrete, decLt}
+use native.Mathlib.Nat.{le-refl}
 use native.Mathlib.Omega.{arith}
 use lib.ListN.{length, set}
 use lib.Seq.{getD-set-same, getD-set-other}
@@ -29,7 +29,8 @@ use Rattle.claimfile.specs.Day.{countOf, groupOf}
 use Rattle.claimfile.specs.Sound.{Sound}
 use Rattle.claimfile.specs.declared.Layout.{Layout}
 use Rattle.claimfile.proofs.DayLaws.{side-most}
-use Rattle.limits.specs.Side.{parentBy, parentIn, limitIn, upIn, HasRoom, IsFull, Asked, shut, wayBy, Ways, Walked}
+use Rattle.limits.specs.Side.{parentBy, parentIn, upIn, hangs}
+use Rattle.limits.specs.Chain.{Ups, Lists, Climbed, Chained}
 
 module _ (G u h : ℕ) where
   pub parent-lower : u < h → u ≡ parentBy G u h
@@ -71,111 +72,102 @@ module _ (s : List ℕ) (l : Layout) (side : ℕ) where
           | inr e ↦ up-none (parentIn s l side g) g (omega arith)
         ]
 
---------------------------------------------------------------------------------
--- Whether they all have a place left
-
-module _ (s : List ℕ) (l : Layout) (side : ℕ) (k : List ℕ) (g : ℕ) where
-  room-none : countOf l side ≤ g → HasRoom s l side k g
-  room-none m h i e = absurd (omega (arith, up-none s l side g h m))
-
-  module _ (inside : g < countOf l side) where
-    full-here : limitIn s l side g ≤ row k g → IsFull s l side k g
-    full-here m = (g, inside, omega (arith, up-in s l side g inside g, up-apart s l side g inside, same-self g), m)
-
-    module _ (place : row k g < limitIn s l side g) where
-      room-up : HasRoom s l side k (parentIn s l side g) → HasRoom s l side k g
-      room-up above h i e =
-          elim (ℕ-discrete g h) [
-            | yes q ↦ rw (← q) place
-            | no q ↦ above h i (omega (arith, up-in s l side g inside h, same-ne g h q))
-          ]
-
-      full-up : IsFull s l side k (parentIn s l side g) → IsFull s l side k g
-      full-up f =
-          let h = f .0 in
-          let apart : g ≢ h = λ q.
-          omega (arith, f .2, up-apart s l side g inside, ap (λ x. upIn s l side (parentIn s l side g) x) q) in
-          (h, f .1, omega (arith, up-in s l side g inside h, same-ne g h apart, f .2), f .3)
-
-      asked-up : (r : Bool) → Asked s l side k (parentIn s l side g) r → Asked s l side k g r
-      asked-up r a = record { room = λ e. room-up (a .room e); full = λ e. full-up (a .full e) }
+    -- it counts in itself
+    pub up-own : upIn s l side g g ≡ 1
+    up-own = omega (arith, up-in g, up-apart, same-self g)
 
 --------------------------------------------------------------------------------
--- The ways on
+-- The groups from g up as a list
 
-module _ (s : List ℕ) (l : Layout) (side g n : ℕ) where
-  pub way-shut : limitIn s l side g ≤ n → shut ≡ wayBy s l side g n
-  way-shut m = rw (le-leb _ _ m)
+-- the parents of the groups before g
+abbrev pub UpsTo : List ℕ → Layout → ℕ → List ℕ → ℕ → Type 0
+UpsTo s l side ups g = (h : ℕ) → h < g → row ups h ≡ parentIn s l side h
 
-  pub way-open : n < limitIn s l side g → parentIn s l side g ≡ wayBy s l side g n
-  way-open m = rw (lt-leb _ _ m)
-
--- from the groups before g
-abbrev pub WaysTo : List ℕ → Layout → ℕ → List ℕ → List ℕ → ℕ → Type 0
-WaysTo s l side k ways g = (h : ℕ) → h < g → row ways h ≡ wayBy s l side h (row k h)
-
-pub ways-step :
-    (s : List ℕ) (l : Layout) (side : ℕ) (k ways : List ℕ) (g w : ℕ) → g < length ways → w ≡ wayBy s l side g (row k g) →
-    WaysTo s l side k ways g → WaysTo s l side k (set ways g w) (g + 1)
-ways-step s l side k ways g w inside e to h m =
+pub ups-step :
+    (s : List ℕ) (l : Layout) (side : ℕ) (ups : List ℕ) (g u : ℕ) → g < length ups → u ≡ parentIn s l side g →
+    UpsTo s l side ups g → UpsTo s l side (set ups g u) (g + 1)
+ups-step s l side ups g u inside e to h m =
     elim (ℕ-discrete g h) [
-      | yes q ↦ rw (← q) (getD-set-same ways g w 0 inside ∙ e)
-      | no q ↦ getD-set-other ways g h w 0 (λ i. q (sym i)) ∙ to h (omega arith)
+      | yes q ↦ rw (← q) (getD-set-same ups g u 0 inside ∙ e)
+      | no q ↦ getD-set-other ups g h u 0 (λ i. q (sym i)) ∙ to h (omega arith)
     ]
 
--- the way on from group g
-module _ (s : List ℕ) (l : Layout) (side : ℕ) (k ways : List ℕ) (sound : Sound s l) (w : Ways s l side k ways) where
-  module _ (g : ℕ) (inside : g < countOf l side) where
-    way-full : row ways g ≡ shut → limitIn s l side g ≤ row k g
-    way-full e =
-        elim (decLt (row k g) (limitIn s l side g)) [
-          | yes m ↦
-              absurd
-              (elim (side-rooted s l side g inside) [
-                | inl d ↦ omega (arith, w .on g inside, way-open s l side g (row k g) m, side-most s l sound side)
-                | inr d ↦ omega (arith, w .on g inside, way-open s l side g (row k g) m, side-most s l sound side)
-              ])
-          | no m ↦ omega arith
-        ]
+-- there is none from a root up
+lists-none : (s : List ℕ) (l : Layout) (side g n : ℕ) (list : List ℕ) → countOf l side ≤ g → Lists s l side g n n list
+lists-none s l side g n list root =
+    record {
+      each = λ j m k. absurd (omega arith);
+      all = λ h m e. absurd (omega (arith, up-none s l side g h root));
+    }
 
-    way-place : row ways g ≢ shut → row k g < limitIn s l side g
-    way-place n =
-        elim (decLt (row k g) (limitIn s l side g)) [
-          | yes m ↦ m
-          | no m ↦ absurd (n (w .on g inside ∙ sym (way-shut s l side g (row k g) (omega arith))))
-        ]
+-- group g in cell n, and those from its parent up behind it
+lists-up :
+    (s : List ℕ) (l : Layout) (side g n r : ℕ) (list : List ℕ) → g < countOf l side → row list n ≡ g → n < r →
+    Lists s l side (parentIn s l side g) (n + 1) r list → Lists s l side g n r list
+lists-up s l side g n r list inside here some rest =
+    record {
+      each = λ j m k.
+          elim (ℕ-discrete n j) [
+            | yes q ↦ subst On (sym here ∙ ap (row list) q) (inside, up-own s l side g inside)
+            | no q ↦ let behind = rest .each j (omega arith) k in (behind .0, above (row list j) (behind .1))
+          ];
+      all = λ h m e.
+          elim (ℕ-discrete g h) [
+            | yes q ↦ (n, le-refl n, some, here ∙ q)
+            | no q ↦
+                let behind = rest .all h m (omega (arith, up-in s l side g inside h, same-ne g h q, e)) in
+                (behind .0, omega (arith, behind .1), behind .2, behind .3)
+          ];
+    }
+  where
+    On : ℕ → Type 0
+    On v = (v < countOf l side) × (upIn s l side g v ≡ 1)
 
-    way-parent : row ways g ≢ shut → row ways g ≡ parentIn s l side g
-    way-parent n = w .on g inside ∙ sym (way-open s l side g (row k g) (way-place n))
+    -- a group above the parent is above g, and is not g
+    above : (v : ℕ) → upIn s l side (parentIn s l side g) v ≡ 1 → upIn s l side g v ≡ 1
+    above v e =
+        let apart : g ≢ v = λ q.
+        omega (arith, e, up-apart s l side g inside, ap (λ x. upIn s l side (parentIn s l side g) x) q) in
+        omega (arith, up-in s l side g inside v, same-ne g v apart, e)
 
--- one law for each branch of the walk
-module _ (ways : List ℕ) (g : ℕ) where
-  pub walked-past : maxGroups < g → Walked ways g true
-  walked-past m s l side k sound w inside = absurd (omega (arith, side-most s l sound side))
-
-  pub walked-shut : row ways g ≡ shut → Walked ways g false
-  walked-shut e s l side k sound w inside =
+-- one law for each branch of the walk; u is the number beside group g
+module _ (ups : List ℕ) (g n u : ℕ) (list : List ℕ) (long : n < length list) (beside : u ≡ row ups g) where
+  pub climbed-top : g ≤ u → Climbed ups g n list (set list n g) (n + 1)
+  climbed-top m =
       record {
-        room = λ q. absurd (false≢true q);
-        full = λ q. full-here s l side k g inside (way-full s l side k ways sound w g inside e);
+        some = omega arith;
+        most = omega arith;
+        old = λ j k. getD-set-other list n j g 0 (λ e. omega arith);
+        lists = λ s l side up inside.
+            lists-up s l side g n (n + 1) (set list n g) inside (getD-set-same list n g 0 long) (omega arith)
+            (lists-none s l side (parentIn s l side g) (n + 1) (set list n g) (root s l side inside (beside ∙ up g inside)));
+      }
+    where
+      root :
+          (s : List ℕ) (l : Layout) (side : ℕ) → g < countOf l side → u ≡ parentIn s l side g →
+          countOf l side ≤ parentIn s l side g
+      root s l side inside e =
+          elim (side-rooted s l side g inside) [ inl d ↦ absurd (omega arith) | inr d ↦ omega arith ]
+
+  pub climbed-up :
+      u < g → (list′ : List ℕ) (r : ℕ) → Climbed ups u (n + 1) (set list n g) list′ r → Climbed ups g n list list′ r
+  climbed-up m list′ r c =
+      record {
+        some = omega (arith, c .some);
+        most = omega (arith, c .most);
+        old = λ j k. c .old j (omega arith) ∙ getD-set-other list n j g 0 (λ e. omega arith);
+        lists = λ s l side up inside.
+            let e : u ≡ parentIn s l side g = beside ∙ up g inside in
+            lists-up s l side g n r list′ inside (c .old n (omega arith) ∙ getD-set-same list n g 0 long) (omega (arith, c .some))
+            (subst (λ v. Lists s l side v (n + 1) r list′) e (c .lists s l side up (omega arith)));
       }
 
-  module _ (n : row ways g ≢ shut) where
-    pub walked-up : (u : ℕ) → u ≡ row ways g → u < g → (r : Bool) → Walked ways u r → Walked ways g r
-    walked-up u e m r walked s l side k sound w inside =
-        asked-up s l side k g inside (way-place s l side k ways sound w g inside n) r
-        (subst (λ v. Asked s l side k v r) (e ∙ way-parent s l side k ways sound w g inside n)
-        (walked s l side k sound w (omega arith)))
-
-    pub walked-top : g ≤ row ways g → Walked ways g true
-    walked-top m s l side k sound w inside =
-        record {
-          room = λ q.
-              room-up s l side k g inside (way-place s l side k ways sound w g inside n)
-              (room-none s l side k (parentIn s l side g)
-              (elim (side-rooted s l side g inside) [
-                | inl d ↦ absurd (omega (arith, way-parent s l side k ways sound w g inside n))
-                | inr d ↦ omega arith
-              ]));
-          full = λ q. absurd (true≢false q);
-        }
+pub climbed-chain :
+    (s : List ℕ) (l : Layout) (side x : ℕ) (ups : List ℕ) → Ups s l side ups → (g : ℕ) → g ≡ hangs s l side x →
+    hangs s l side x < countOf l side → countOf l side ≤ maxGroups → (list list′ : List ℕ) (r : ℕ) → Climbed ups g 0 list list′ r →
+    Chained s l side x list′ r
+climbed-chain s l side x ups up g is inside few list list′ r c =
+    record {
+      most = omega (arith, c .most);
+      lists = subst (λ v. Lists s l side v 0 r list′) is (c .lists s l side up (omega arith));
+    }

@@ -5,20 +5,22 @@
 --   sound-matroid          the lists of rows that fit a side of a sound file are the independent sets of a matroid
 --   file-matroid           the same of an accepted file
 --   side-fits fits-side side-rank      what fits the side's groups fits the side, and a rank there is a rank on the side
-use mathlib.Core.Path.{_≡_, refl}
+--   on-own on-other both-on both-load  a row counts in a group by the side of that group, and so do many
+use mathlib.Core.Path.{_≡_, refl, ap}
 use mathlib.Core.List.{List}
-use mathlib.Core.Logic.{inl, inr, _≢_}
-use Prim.Native.Nat.{ℕ, zero, suc, _+_, _≤_, _<_}
+use mathlib.Core.Logic.{_⊎_, inl, inr, _≢_}
+use Prim.Native.Nat.{ℕ, zero, suc, _+_, _*_, _≤_, _<_}
 use native.Mathlib.Nat.{le-refl}
 use native.Mathlib.Decide.{decLt}
 use native.Mathlib.Omega.{arith}
 use borrow.Author.Tests.{lt-ltb, le-ltb}
-use Rattle.theory.specs.Incidence.{Selection}
-use Rattle.theory.specs.Network.{node, onSide, FitsSide, Independent}
+use Rattle.theory.specs.Incidence.{Selection, load}
+use Rattle.theory.specs.Network.{node, onSide, onBoth, FitsSide, Independent}
 use Rattle.theory.specs.Matroid.{Matroid, Rank}
 use Rattle.theory.proofs.NetworkLaws.{formed-down}
 use Rattle.theory.proofs.MatroidLaws.{side-matroid}
-use Rattle.theory.proofs.EmbedLaws.{Stands, Hanging, part-fits, fits-part, part-rank}
+use Rattle.theory.proofs.SumLaws.{sum-cong}
+use Rattle.theory.proofs.EmbedLaws.{Stands, Hanging, part-chain, part-other, part-fits, fits-part, part-rank}
 use Rattle.claimfile.specs.Day.{countOf, groupOf, namedCard, namedShop, groupsOf, firstOf, rootOf}
 use Rattle.claimfile.specs.Day.{parentOf, limitOf, networkOf}
 use Rattle.claimfile.specs.Sound.{Sound}
@@ -27,7 +29,7 @@ use Rattle.claimfile.specs.declared.Layout.{Layout}
 use Rattle.claimfile.specs.declared.Reading.the-variants.{Accepted}
 use Rattle.claimfile.proofs.AcceptedLaws.{accepted-sound}
 use Rattle.claimfile.proofs.DayLaws.{parent-on, limit-on, card-node, shop-node, sound-formed}
-use Rattle.limits.specs.Side.{parentIn, limitIn, hangs, FitsIn}
+use Rattle.limits.specs.Side.{parentIn, limitIn, hangs, countsIn, FitsIn}
 use Rattle.limits.proofs.ChainLaws.{side-down}
 
 pub hangs-card : (s : List ℕ) (l : Layout) (side c : ℕ) → side ≡ 0 → hangs s l side c ≡ namedCard s l c
@@ -38,7 +40,7 @@ hangs-shop s l zero c n = absurd (n refl)
 hangs-shop s l (suc side) c n = refl
 
 -- the nodes of a side lie within the network, and its root past it
-side-room : (l : Layout) (side : ℕ) → firstOf l side + countOf l side ≤ groupsOf l
+pub side-room : (l : Layout) (side : ℕ) → firstOf l side + countOf l side ≤ groupsOf l
 side-room l zero = omega arith
 side-room l (suc n) = le-refl (groupsOf l)
 
@@ -106,6 +108,33 @@ module _ (s : List ℕ) (l : Layout) (sound : Sound s l) where
       side-rank =
           part-rank (l .rows) (countOf l side) (parentIn s l side) (limitIn s l side) (hangs s l side) (groupsOf l)
           (parentOf s l) (limitOf s l) (node (networkOf s l) side) (firstOf l side) side-hanging X
+
+  module _ (c : ℕ) (row : c < l .rows) where
+    -- by its node on a side a row counts in the groups of that side alone
+    on-own : (side g : ℕ) → g < countOf l side → onSide (networkOf s l) side c (firstOf l side + g) ≡ countsIn s l side c g
+    unfolding onSide
+    on-own side g m =
+        part-chain (countOf l side) (parentIn s l side) (groupsOf l) (parentOf s l) (firstOf l side) (side-hanging side .part) g m
+        (hangs s l side c) (node (networkOf s l) side c) (side-hanging side .rows c row)
+
+    on-other :
+        (side v : ℕ) → (v < firstOf l side) ⊎ (firstOf l side + countOf l side ≤ v) → onSide (networkOf s l) side c v ≡ 0
+    unfolding onSide
+    on-other side v apart =
+        part-other (countOf l side) (parentIn s l side) (groupsOf l) (parentOf s l) (firstOf l side) (side-hanging side .part) v
+        apart (hangs s l side c) (node (networkOf s l) side c) (side-hanging side .rows c row)
+
+    pub both-on :
+        (side g : ℕ) → g < countOf l side → onBoth (networkOf s l) c (firstOf l side + g) ≡ countsIn s l side c g
+    unfolding onBoth
+    both-on zero g m = omega (arith, on-own 0 g m, on-other 1 (0 + g) (inl (omega arith)))
+    both-on (suc n) g m = omega (arith, on-own 1 g m, on-other 0 (l .cards + g) (inr (omega arith)))
+
+  pub both-load :
+      (X : ℕ → ℕ) (side g : ℕ) → g < countOf l side →
+      load (l .rows) (onBoth (networkOf s l)) X (firstOf l side + g) ≡ load (l .rows) (countsIn s l side) X g
+  unfolding load
+  both-load X side g m = sum-cong (l .rows) (λ c h. ap (λ x. X c * x) (both-on c h side g m))
 
 -- demand 2: the lists of rows that fit a side of an accepted file are the independent sets of a matroid
 pub file-matroid :

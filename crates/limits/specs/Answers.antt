@@ -6,48 +6,48 @@
 --   Told i sel side b n    what these mean: the lists that fit the side are the independent sets of a matroid; b is 1 exactly where
 --                          the selection is one of them; n is the size of a largest one within the selection, its rank
 --   Finds i sel side f     f is what is found on the side, and means that
---   FitsMore i sel x       the selection with row x added fits both sides
---   addsTo i sel x         the same as a test
---   Adds i sel x b         b is that test, and means that
+--   SparesOn i sel x n     n is how many further claims like row x would fit beside the selection, and what that means
 -- Of a file:
 --   bits n sel             whether each of the first n bytes of a selection is 0 or 1
 --   enteredBy sel reading, entered s sel    a file with a selection: turned away with the file's refusal, then 8, then 9, else
 --                          the file's layout
 --   rankedBy s sel side entry, ranked s sel side     the answer of fits and rank
---   oneMoreBy s sel x entry, oneMore s sel x         the answer of one more
---   RankedNumbers, OneMoreNumbers        document 01's number and values of an answer
---   rankedNumbers r, oneMoreNumbers r    these for each case of an answer: the refusal's number and zeros, or 0 with yes (1) or no (0),
---                          and the rank
+--   spareBy s sel x entry, spare s sel x             the answer of spare places
+--   RankedNumbers, SpareNumbers          document 01's number and values of an answer
+--   rankedNumbers r, spareNumbers r      these for each case of an answer: the refusal's number and zeros, or 0 with yes (1) or no (0)
+--                          and the rank, or 0 with the number of places
 --   Answered s sel side r  r is the answer of fits and rank, in document 01's number and values too. Where no refusal is told of an
 --                          accepted file, the values mean what `Told` says of the day that it holds
---   Added s sel x r        the same of one more: yes where the selection with the row added fits both sides
--- "Then 7, 8, 9": 8 for a selection that is shorter than needed; 9 for a selection byte over 1, a side over 1, a row not below N.
+--   Spared s sel x r       the same of spare places: the row is not in the selection, and the number means what `Spares` says
+-- "Then 7, 8, 9": 8 for a selection that is shorter than needed; 9 for a selection byte over 1, a side over 1, a row not below N. Then 10,
+-- the row is already in the selection.
 use Prim.Native.Nat.{ℕ}
 use mathlib.Core.Path.{_≡_}
 use mathlib.Core.List.{List}
 use mathlib.Core.Bool.{Bool, true, false}
 use mathlib.Core.Logic.{_↔_}
 use lib.ListN.{length}
-use lib.Dec.{ltb, leb}
+use lib.Dec.{ltb, leb, eqb}
 use Rattle.theory.specs.Sum.{pick, every}
-use Rattle.theory.specs.Incidence.{fits, plus}
+use Rattle.theory.specs.Incidence.{fits}
 use Rattle.theory.specs.Matroid.{Matroid, Rank, row}
 use Rattle.theory.specs.Search.{rank}
-use Rattle.theory.specs.Network.{Instance, onSide, Independent, FitsBoth, fitsBoth}
+use Rattle.theory.specs.Network.{Instance, onSide, Independent}
+use Rattle.theory.specs.Spare.{sparePlaces, Spares}
 use Rattle.claimfile.specs.File.{reading}
-use Rattle.claimfile.specs.Day.{instanceOf}
+use Rattle.claimfile.specs.Day.{limitOf, networkOf, instanceOf}
 use Rattle.claimfile.specs.declared.Layout.{Layout}
 use Rattle.claimfile.specs.declared.Reading.{Reading}
 use Rattle.claimfile.specs.declared.Reading.the-variants as reading-is
-use Rattle.refusal.specs.declared.Reason.the-variants.{File, Short, Value}
+use Rattle.refusal.specs.declared.Reason.the-variants.{File, Short, Value, Selected}
 use Rattle.refusal.specs.Table.{numberOf}
 use Rattle.limits.specs.declared.Found.{Found}
 use Rattle.limits.specs.declared.Entry.{Entry}
 use Rattle.limits.specs.declared.Entry.the-variants.{Entered, Turned}
 use Rattle.limits.specs.declared.Ranked.{Ranked}
 use Rattle.limits.specs.declared.Ranked.the-variants as ranked-is
-use Rattle.limits.specs.declared.OneMore.{OneMore}
-use Rattle.limits.specs.declared.OneMore.the-variants as one-more-is
+use Rattle.limits.specs.declared.Spare.{Spare}
+use Rattle.limits.specs.declared.Spare.the-variants as spare-is
 
 abbrev pub fitsOf : Instance → ℕ → (ℕ → ℕ) → Bool
 fitsOf i side = fits (i .net .rows) (i .net .groups) (onSide (i .net) side) (i .limit)
@@ -71,15 +71,8 @@ pub record Finds (i : Instance) (sel : List ℕ) (side : ℕ) (f : Found) : Type
   pub is : f ≡ foundOn i sel side
   pub means : Told i sel side (bit (f .fits)) (f .rank)
 
-abbrev pub FitsMore : Instance → List ℕ → ℕ → Type 0
-FitsMore i sel x = FitsBoth (i .net) (i .limit) (plus (row sel) x)
-
-abbrev pub addsTo : Instance → List ℕ → ℕ → Bool
-addsTo i sel x = fitsBoth (i .net) (i .limit) (plus (row sel) x)
-
-pub record Adds (i : Instance) (sel : List ℕ) (x : ℕ) (b : Bool) : Type 0 where
-  pub is : b ≡ addsTo i sel x
-  pub means : (b ≡ true) ↔ FitsMore i sel x
+abbrev pub SparesOn : Instance → List ℕ → ℕ → ℕ → Type 0
+SparesOn i sel x n = Spares (i .net) (i .limit) (row sel) x n
 
 --------------------------------------------------------------------------------
 -- A file with a selection
@@ -108,15 +101,17 @@ rankedBy s sel side (Entered l) =
 unfoldable pub ranked : List ℕ → List ℕ → ℕ → Ranked
 ranked s sel side = rankedBy s sel side (entered s sel)
 
-abbrev pub oneMoreBy : List ℕ → List ℕ → ℕ → Entry → OneMore
-oneMoreBy s sel x (Turned why) = one-more-is.Refused why
-oneMoreBy s sel x (Entered l) =
+abbrev pub spareBy : List ℕ → List ℕ → ℕ → Entry → Spare
+spareBy s sel x (Turned why) = spare-is.Refused why
+spareBy s sel x (Entered l) =
     pick (leb (l .rows) x)
-    (one-more-is.Refused Value)
-    (pick (addsTo (instanceOf s l) sel x) one-more-is.Yes one-more-is.No)
+    (spare-is.Refused Value)
+    (pick (eqb (row sel x) 1)
+    (spare-is.Refused Selected)
+    (spare-is.Places (sparePlaces (networkOf s l) (limitOf s l) (row sel) x)))
 
-unfoldable pub oneMore : List ℕ → List ℕ → ℕ → OneMore
-oneMore s sel x = oneMoreBy s sel x (entered s sel)
+unfoldable pub spare : List ℕ → List ℕ → ℕ → Spare
+spare s sel x = spareBy s sel x (entered s sel)
 
 pub record RankedNumbers : Type 0 where
   pub number : ℕ
@@ -127,14 +122,13 @@ abbrev pub rankedNumbers : Ranked → RankedNumbers
 rankedNumbers (ranked-is.Told b n) = record { number = 0; fits = bit b; rank = n }
 rankedNumbers (ranked-is.Refused why) = record { number = numberOf why; fits = 0; rank = 0 }
 
-pub record OneMoreNumbers : Type 0 where
+pub record SpareNumbers : Type 0 where
   pub number : ℕ
-  pub yes : ℕ
+  pub places : ℕ
 
-abbrev pub oneMoreNumbers : OneMore → OneMoreNumbers
-oneMoreNumbers one-more-is.Yes = record { number = 0; yes = 1 }
-oneMoreNumbers one-more-is.No = record { number = 0; yes = 0 }
-oneMoreNumbers (one-more-is.Refused why) = record { number = numberOf why; yes = 0 }
+abbrev pub spareNumbers : Spare → SpareNumbers
+spareNumbers (spare-is.Places n) = record { number = 0; places = n }
+spareNumbers (spare-is.Refused why) = record { number = numberOf why; places = 0 }
 
 pub record Answered (s sel : List ℕ) (side : ℕ) (r : Ranked) : Type 0 where
   pub is : r ≡ ranked s sel side
@@ -143,9 +137,9 @@ pub record Answered (s sel : List ℕ) (side : ℕ) (r : Ranked) : Type 0 where
       (l : Layout) → reading s ≡ reading-is.Accepted l → rankedNumbers r .number ≡ 0 →
       Told (instanceOf s l) sel side (rankedNumbers r .fits) (rankedNumbers r .rank)
 
-pub record Added (s sel : List ℕ) (x : ℕ) (r : OneMore) : Type 0 where
-  pub is : r ≡ oneMore s sel x
-  pub numbers : oneMoreNumbers r ≡ oneMoreNumbers (oneMore s sel x)
+pub record Spared (s sel : List ℕ) (x : ℕ) (r : Spare) : Type 0 where
+  pub is : r ≡ spare s sel x
+  pub numbers : spareNumbers r ≡ spareNumbers (spare s sel x)
   pub means :
-      (l : Layout) → reading s ≡ reading-is.Accepted l → oneMoreNumbers r .number ≡ 0 →
-      (oneMoreNumbers r .yes ≡ 1) ↔ FitsMore (instanceOf s l) sel x
+      (l : Layout) → reading s ≡ reading-is.Accepted l → spareNumbers r .number ≡ 0 →
+      (row sel x ≡ 0) × SparesOn (instanceOf s l) sel x (spareNumbers r .places)

@@ -6,13 +6,6 @@
 --   upIn s l side g h      1 where group h is g, its parent, and so on up to the top, else 0
 --   hangs s l side c       the group where row c hangs on a side
 --   countsIn s l side c h  1 where row c counts in group h, else 0
---   HasRoom s l side k g   each group from g up has a place left beside the counts k
---   IsFull s l side k g    one of them has none
---   Asked s l side k g r   r says which
---   shut                   in place of a way on from a group: no place is left in it
---   wayBy s l side h n     the way on from group h that counts n: its parent or the top, or `shut`
---   Ways s l side k ways   `ways` has it for each group of the side, by the counts k
---   Walked ways g r        whatever side and counts the ways are of, r says whether each group from g up has a place left
 -- For the counts k, a cell for each group and one for the top:
 --   Zero k                 all 0
 --   Counted s sel l side k     each group counts the selected rows that hang at it
@@ -61,29 +54,6 @@ hangs s l (suc n) c = namedShop s l c
 
 abbrev pub countsIn : List ℕ → Layout → ℕ → ℕ → ℕ → ℕ
 countsIn s l side = hung (countOf l side) (parentIn s l side) (hangs s l side)
-
-abbrev pub HasRoom : List ℕ → Layout → ℕ → List ℕ → ℕ → Type 0
-HasRoom s l side k g = (h : ℕ) → h < countOf l side → upIn s l side g h ≡ 1 → row k h < limitIn s l side h
-
-abbrev pub IsFull : List ℕ → Layout → ℕ → List ℕ → ℕ → Type 0
-IsFull s l side k g = (h : ℕ) × (h < countOf l side) × (upIn s l side g h ≡ 1) × (limitIn s l side h ≤ row k h)
-
-pub record Asked (s : List ℕ) (l : Layout) (side : ℕ) (k : List ℕ) (g : ℕ) (r : Bool) : Type 0 where
-  pub room : r ≡ true → HasRoom s l side k g
-  pub full : r ≡ false → IsFull s l side k g
-
-abbrev pub shut : ℕ
-shut = 65535
-
-abbrev pub wayBy : List ℕ → Layout → ℕ → ℕ → ℕ → ℕ
-wayBy s l side h n = pick (leb (limitIn s l side h) n) shut (parentIn s l side h)
-
-pub record Ways (s : List ℕ) (l : Layout) (side : ℕ) (k ways : List ℕ) : Type 0 where
-  pub on : (h : ℕ) → h < countOf l side → row ways h ≡ wayBy s l side h (row k h)
-
-abbrev pub Walked : List ℕ → ℕ → Bool → Type 0
-Walked ways g r =
-    (s : List ℕ) (l : Layout) (side : ℕ) (k : List ℕ) → Sound s l → Ways s l side k ways → g < countOf l side → Asked s l side k g r
 
 --------------------------------------------------------------------------------
 -- The counts of the rows, at the groups that they name and as they rise

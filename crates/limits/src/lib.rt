@@ -1,25 +1,24 @@
-// Which lists of rows fit the limits of a side, and what their ranks are.
+// Which lists of rows fit the limits of a side, what their ranks are, and how many claims more would fit.
 //
 // A selection is one byte a row, 1 where the row is in it; bytes past the last row are not read.
 // Each selected row is counted at the group that it names. Then the rows rise, from the last group to the first: a group passes on to
 // its parent as many as came to it, but no more than its limit. Since each parent has a smaller number, all that comes to a group has
 // come when its turn is. What comes to the top is the rank, and the selection fits where each group passed on all that came to it.
 // The cost is rows + groups; the memory is one count for each group of one side, and one for the top.
-// For one row more the way on from each group is found: to its parent, to the top, or none where no place is left in it. Then a walk
-// goes through the parents, from the row's own group. It takes a table of fixed length and one number, and its own call comes last, so
-// that a compiler can make it a loop: a deep chain of groups needs no more memory than a short one.
+// For the spare places of a row, a walk through the parents, from the group where the row hangs, lists the groups that it counts in. It
+// takes tables of fixed length and two numbers, and its own call comes last, so that a compiler can make it a loop: a deep chain of
+// groups needs no more memory than a short one.
 ghost use mathlib.Core.Path.{_≡_};
-ghost use Prim.Native.Nat.{min, _<_, _≤_};
+ghost use Prim.Native.Nat.{_+_, _-_, min, _<_, _≤_};
 ghost use lib.ListN.{length};
 ghost use Rattle.theory.specs.Bounds.{maxGroups};
-ghost use Rattle.theory.specs.Incidence.{plus};
-ghost use Rattle.theory.specs.Matroid as matroid;
-ghost use Rattle.claimfile.specs.Day.{countOf, instanceOf};
+ghost use Rattle.claimfile.specs.Day.{instanceOf};
 ghost use Rattle.claimfile.specs.Sound.{Sound};
 ghost use Rattle.claimfile.specs.declared.Reading.the-variants.{Accepted};
-ghost use Rattle.limits.specs.Answers.{bits, enteredBy, entered, fitsOf, Finds, Adds, Answered, Added};
+ghost use Rattle.limits.specs.Answers.{bits, enteredBy, entered, Finds, SparesOn, Answered, Spared};
 ghost use Rattle.limits.specs.Ready.{Ready};
-ghost use Rattle.limits.specs.Side.{parentBy, hangs, Held, Zero, Counted, Passes, PassedOn, Begun, Rose, Placed, wayBy, Ways, Walked};
+ghost use Rattle.limits.specs.Side.{parentBy, hangs, Zero, Counted, Passes, PassedOn, Begun, Rose, Placed};
+ghost use Rattle.limits.specs.Chain.{Ups, Climbed, Chained};
 use claimfile::Layout;
 use claimfile::Reading;
 use claimfile::claim_of;
@@ -28,12 +27,10 @@ use claimfile::groups_on;
 use claimfile::read;
 use refusal::Reason;
 use theory::MAX_GROUPS;
+use theory::MAX_LIMIT;
 
 // The counts of a side: one for each of its groups, and one for the top.
 const CELLS: usize = MAX_GROUPS + 1;
-
-// In place of the way on from a group: no place is left in it.
-const SHUT: u16 = 65535;
 
 // Whether a selection fits a side, and its rank there.
 pub enum Ranked {
@@ -41,10 +38,9 @@ pub enum Ranked {
     Refused(Reason),
 }
 
-// Whether a selection with one row more fits both sides.
-pub enum OneMore {
-    Yes,
-    No,
+// How many further claims like a row would fit beside a selection.
+pub enum Spare {
+    Places(usize),
     Refused(Reason),
 }
 
@@ -170,79 +166,84 @@ pub fn rank_on(file: &[u8], layout: Layout, side: usize, selection: &[u8]) -> Fo
     rise_on(file, layout, side, selection, &mut counts)
 }
 
-// The way on from group `g` beside its count: to its parent or the top, or none where no place is left in it.
-fn way_on(file: &[u8], layout: Layout, side: usize, g: usize, count: u16) -> u16
-    requires { ⌜ (Sound (now file) layout) × (g < countOf layout side) ⌝ }
-    ensures { λ r. ⌜ r ≡ wayBy (now (file .entry)) layout side g count ⌝ }
-{
-    let group = group_of(file, layout, side, g);
-    if group.limit <= wide(count) {
-        return SHUT;
-    }
-    above(group.parent, g, groups_on(layout, side)) as u16
-}
-
-// The ways on from the groups of a side.
-fn ways_of(file: &[u8], layout: Layout, side: usize, counts: &[u16]) -> [u16; CELLS]
-    requires { ⌜ Held (now file) layout side (now counts) ⌝ }
-    ensures { λ r. ⌜ Ways (now (file .entry)) layout side (now (counts .entry)) r ⌝ }
+// The group above each group of a side: its parent, or the top.
+fn ups_of(file: &[u8], layout: Layout, side: usize) -> [u16; CELLS]
+    requires { ⌜ Sound (now file) layout ⌝ }
+    ensures { λ r. ⌜ Ups (now (file .entry)) layout side r ⌝ }
 {
     let top = groups_on(layout, side);
-    let mut ways = [0u16; CELLS];
+    let mut ups = [0u16; CELLS];
     let mut g = 0;
     while g < top {
-        ways[g] = way_on(file, layout, side, g, counts[g]);
+        let group = group_of(file, layout, side, g);
+        ups[g] = above(group.parent, g, top) as u16;
         g += 1;
     }
-    ways
+    ups
 }
 
-// Whether a place is left in each group from `g` up.
-fn has_room(ways: &[u16; CELLS], g: usize) -> bool
-    ensures { λ r. ⌜ Walked (now (ways .entry)) g r ⌝ }
+// Puts group `g` and the groups above it into a list that holds `n` groups, and answers how many it then holds.
+fn climb(ups: &[u16; CELLS], g: usize, n: usize, list: &mut [u16; CELLS]) -> usize
+    requires { ⌜ (n + g ≤ maxGroups) × (maxGroups < length (now list)) ⌝ }
+    ensures { λ r. ⌜ Climbed (now (ups .entry)) g n (now (list .entry)) (now (list .exit)) r ⌝ }
 {
-    if CELLS <= g {
-        return true;
-    }
-    let way = ways[g];
-    if way == SHUT {
-        return false;
-    }
-    let up = wide(way);
+    list[n] = g as u16;
+    let up = wide(ups[g]);
     if g <= up {
-        return true;
+        return n + 1;
     }
-    has_room(ways, up)
+    climb(ups, up, n + 1, list)
 }
 
-// Whether the selection with a row added fits a side of an accepted file.
-fn fits_with(file: &[u8], layout: Layout, side: usize, row: usize, selection: &[u8]) -> bool
-    requires { ⌜ Ready (now file) (now selection) layout ⌝ }
-    requires { ⌜ row < layout .rows ⌝ }
-    ensures { λ r. ⌜ r ≡ fitsOf (instanceOf (now (file .entry)) layout) side (plus (matroid.row (now (selection .entry))) row) ⌝ }
+// Lists the groups that row `row` counts in on a side, and answers how many they are.
+fn chain_of(file: &[u8], layout: Layout, side: usize, row: usize, list: &mut [u16; CELLS]) -> usize
+    requires { ⌜ (Sound (now file) layout) × (row < layout .rows) × (maxGroups < length (now list)) ⌝ }
+    ensures { λ r. ⌜ Chained (now (file .entry)) layout side row (now (list .exit)) r ⌝ }
 {
-    let mut counts = [0u16; CELLS];
-    let found = rise_on(file, layout, side, selection, &mut counts);
-    if !found.fits {
-        return false;
-    }
-    if selection[row] == 1 {
-        return true;
-    }
-    let ways = ways_of(file, layout, side, &counts);
-    has_room(&ways, hangs_at(file, layout, side, row))
+    let ups = ups_of(file, layout, side);
+    climb(&ups, hangs_at(file, layout, side, row), 0, list)
 }
 
-// Whether a selection of an accepted file with the row added fits both sides. A row already in it adds nothing.
-pub fn one_more_on(file: &[u8], layout: Layout, row: usize, selection: &[u8]) -> bool
+// The lesser of `spare` and the places that a group with this limit has left beside its count.
+fn fewer(spare: usize, limit: usize, count: u16) -> usize
+    requires { ⌜ count ≤ limit ⌝ }
+    ensures { λ r. ⌜ r ≡ min spare (limit - count) ⌝ }
+{
+    let left = limit - wide(count);
+    if left < spare {
+        return left;
+    }
+    spare
+}
+
+// How many further claims like row `row` would fit beside a selection of an accepted file: the smallest, over all groups that the row
+// counts in on both sides, of limit minus rows counted, and 0 where the selection itself does not fit both sides.
+pub fn spare_on(file: &[u8], layout: Layout, row: usize, selection: &[u8]) -> usize
     requires { ⌜ Ready (now file) (now selection) layout ⌝ }
     requires { ⌜ row < layout .rows ⌝ }
-    ensures { λ r. ⌜ Adds (instanceOf (now (file .entry)) layout) (now (selection .entry)) row r ⌝ }
+    ensures { λ r. ⌜ SparesOn (instanceOf (now (file .entry)) layout) (now (selection .entry)) row r ⌝ }
 {
-    if !fits_with(file, layout, 0, row, selection) {
-        return false;
+    let mut spare = MAX_LIMIT;
+    'sides: for side in 0..2usize {
+        let mut counts = [0u16; CELLS];
+        let found = rise_on(file, layout, side, selection, &mut counts);
+        if !found.fits {
+            // a limit is already passed
+            spare = 0;
+            break 'sides;
+        }
+        let mut list = [0u16; CELLS];
+        let groups = chain_of(file, layout, side, row, &mut list);
+        for k in 0..groups {
+            let g = wide(list[k]);
+            let group = group_of(file, layout, side, g);
+            spare = fewer(spare, group.limit, counts[g]);
+            if spare == 0 {
+                break 'sides;
+            }
+        }
     }
-    fits_with(file, layout, 1, row, selection)
+    spare
 }
 
 // Whether each of the first `rows` bytes of a selection is 0 or 1.
@@ -305,21 +306,21 @@ pub fn fits_and_rank(file: &[u8], selection: &[u8], side: usize) -> Ranked
     }
 }
 
-// Whether a selection with the row added fits both sides. A row already in it adds nothing.
-pub fn one_more(file: &[u8], selection: &[u8], row: usize) -> OneMore
-    ensures { λ r. ⌜ Added (now (file .entry)) (now (selection .entry)) row r ⌝ }
+// How many further claims like the row would fit beside a selection that does not hold it.
+pub fn spare_places(file: &[u8], selection: &[u8], row: usize) -> Spare
+    ensures { λ r. ⌜ Spared (now (file .entry)) (now (selection .entry)) row r ⌝ }
 {
     let entry = enter(file, selection);
     match entry {
-        Entry::Turned(why) => OneMore::Refused(why),
+        Entry::Turned(why) => Spare::Refused(why),
         Entry::Entered(layout) => {
             if layout.rows <= row {
-                return OneMore::Refused(Reason::Value);
+                return Spare::Refused(Reason::Value);
             }
-            if one_more_on(file, layout, row, selection) {
-                return OneMore::Yes;
+            if selection[row] == 1 {
+                return Spare::Refused(Reason::Selected);
             }
-            OneMore::No
+            Spare::Places(spare_on(file, layout, row, selection))
         }
     }
 }

@@ -1,4 +1,4 @@
-// Fits and rank, and one more, a line a case: a name for the case, then the answer.
+// Fits and rank, and spare places, a line a case: a name for the case, then the answer.
 mod build;
 mod tell;
 
@@ -16,8 +16,8 @@ use casebook::files::EXAMPLE_7;
 use casebook::files::space;
 use casebook::line::number;
 use casebook::line::text;
-use tell::more;
 use tell::ranked;
+use tell::spare;
 
 const CARD: usize = 0;
 
@@ -29,8 +29,8 @@ fn day_a(name: &[u8], selection: &[u8], side: usize) {
     ranked(name, &DAY_A, selection, side);
 }
 
-fn more_a(name: &[u8], selection: &[u8], row: usize) {
-    more(name, &DAY_A, selection, row);
+fn spare_a(name: &[u8], selection: &[u8], row: usize) {
+    spare(name, &DAY_A, selection, row);
 }
 
 // Days G and H of document 01.
@@ -56,15 +56,15 @@ fn lengths() {
         b"\x01\x00\x00\x02\xff",
         CARD,
     );
-    more_a(b"one more, one byte short", b"\x01\x00", 0);
-    more_a(
-        b"one more, bytes over 1 past the last row",
+    spare_a(b"spare places, one byte short", b"\x01\x00", 0);
+    spare_a(
+        b"spare places, bytes over 1 past the last row",
         b"\x00\x01\x00\x02\xff",
         2,
     );
 }
 
-// Number 9, and 8 before it.
+// Number 9, and 8 before it; then number 10.
 fn values() {
     day_a(b"byte over 1", b"\x01\x02\x00", CARD);
     day_a(b"byte 255 in the last row", b"\x01\x00\xff", CARD);
@@ -72,27 +72,29 @@ fn values() {
     day_a(b"side far over 1", b"\x00\x00\x00", FAR);
     day_a(b"byte over 1 and side 2", b"\x00\x03\x00", 2);
     day_a(b"too short, byte over 1, side 2", b"\x02\x02", 2);
-    more_a(b"last row", b"\x00\x00\x00", 2);
-    more_a(b"row past the last", b"\x00\x00\x00", 3);
-    more_a(b"row far past the last", b"\x00\x00\x00", FAR);
-    more_a(b"one more, byte over 1", b"\x00\x02\x00", 0);
-    more_a(b"one more, too short, row past the last", b"\x02\x00", 3);
+    spare_a(b"last row", b"\x00\x00\x00", 2);
+    spare_a(b"row past the last", b"\x00\x00\x00", 3);
+    spare_a(b"row far past the last", b"\x00\x00\x00", FAR);
+    spare_a(b"spare places, byte over 1", b"\x00\x02\x00", 0);
+    spare_a(b"too short, row past the last", b"\x02\x00", 3);
+    spare_a(b"row in the selection", b"\x00\x01\x00", 1);
+    spare_a(b"row in the selection, byte over 1", b"\x02\x01\x00", 1);
+    spare_a(b"row in a selection that does not fit", b"\x01\x01\x00", 1);
 }
 
-fn one_more_on_day_a() {
-    more_a(b"row 0 to none", b"\x00\x00\x00", 0);
-    more_a(b"row 2 to row 1", b"\x00\x01\x00", 2);
-    more_a(b"row 0 to row 1, card", b"\x00\x01\x00", 0);
-    more_a(b"row 0 to row 2, shop", b"\x00\x00\x01", 0);
-    more_a(b"row 1 to itself", b"\x00\x01\x00", 1);
-    more_a(b"row 2 to rows 1 and 2", b"\x00\x01\x01", 2);
-    more_a(b"row 1 to rows 0 and 1", b"\x01\x01\x00", 1);
+fn spare_on_day_a() {
+    spare_a(b"row 0 beside none", b"\x00\x00\x00", 0);
+    spare_a(b"row 2 beside row 1", b"\x00\x01\x00", 2);
+    spare_a(b"row 0 beside row 1, card", b"\x00\x01\x00", 0);
+    spare_a(b"row 0 beside row 2, shop", b"\x00\x00\x01", 0);
+    spare_a(b"row 2 beside rows 0 and 1", b"\x01\x01\x00", 2);
+    spare_a(b"row 1 beside rows 0 and 2", b"\x01\x00\x01", 1);
 }
 
 // A fault of the file is told before the selection, the side and the row are judged.
 fn faulty(name: &[u8], file: &[u8]) {
     ranked(name, file, b"\x02", 2);
-    more(name, file, b"\x02", FAR);
+    spare(name, file, b"\x02", FAR);
 }
 
 fn faulty_files() {
@@ -109,11 +111,24 @@ fn faulty_files() {
 fn day_e() {
     ranked(b"day E, card", &DAY_E, b"", CARD);
     ranked(b"day E, shop", &DAY_E, b"\x05", SHOP);
-    more(b"day E, row 0", &DAY_E, b"", 0);
+    spare(b"day E, row 0", &DAY_E, b"", 0);
 }
 
 fn day_b(name: &[u8], selection: &[u8], side: usize) {
     ranked(name, &DAY_B, selection, side);
+}
+
+fn spare_b(name: &[u8], selection: &[u8], row: usize) {
+    spare(name, &DAY_B, selection, row);
+}
+
+// Shop group 0 has limit 2 and stands over group 1 with limit 5 and group 2 with limit 1; each row has a card group of limit 1.
+fn spare_on_day_b() {
+    spare_b(b"day B, row 2 beside none", b"\x00\x00\x00", 2);
+    spare_b(b"day B, row 2 beside row 1", b"\x00\x01\x00", 2);
+    spare_b(b"day B, row 0 beside row 1", b"\x00\x01\x00", 0);
+    spare_b(b"day B, row 1 beside row 2", b"\x00\x00\x01", 1);
+    spare_b(b"day B, row 2 beside rows 0 and 1", b"\x01\x01\x00", 2);
 }
 
 fn day_b_selections() {
@@ -130,7 +145,14 @@ fn show(buf: &[u8], n: usize, selection: &[u8], side: usize) {
     }
 }
 
-// Six rows at the end of a chain: the limit of one group above them is what counts.
+// The spare places of the last of six rows beside the first two.
+fn show_spare(buf: &[u8], n: usize) {
+    if n <= buf.len() {
+        spare(b"", &buf[..n], b"\x01\x01\x00\x00\x00\x00", 5);
+    }
+}
+
+// Six rows at the end of a chain: the limit of one group above them is what counts, or that of their shop group.
 fn chain_case(count: usize, tight: usize, limit: usize) {
     let mut buf = space();
     let n = deep(count, tight, limit, &mut buf);
@@ -141,6 +163,8 @@ fn chain_case(count: usize, tight: usize, limit: usize) {
     text(b" with limit");
     number(limit);
     show(&buf, n, b"\x01\x01\x01\x01\x01\x01", CARD);
+    text(b"beside two of them");
+    show_spare(&buf, n);
 }
 
 fn chains() {
@@ -164,10 +188,11 @@ fn main() {
     days_g_and_h();
     lengths();
     values();
-    one_more_on_day_a();
+    spare_on_day_a();
     faulty_files();
     day_e();
     day_b_selections();
+    spare_on_day_b();
     chains();
     chain_shop();
 }

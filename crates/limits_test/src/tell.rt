@@ -2,10 +2,10 @@
 use casebook::line::number;
 use casebook::line::refused;
 use casebook::line::text;
-use limits::OneMore;
 use limits::Ranked;
+use limits::Spare;
 use limits::fits_and_rank;
-use limits::one_more;
+use limits::spare_places;
 
 fn told(fits: bool, rank: usize) {
     if fits {
@@ -27,13 +27,18 @@ pub fn ranked(name: &[u8], file: &[u8], selection: &[u8], side: usize) {
     }
 }
 
-// The name and the answer of one more.
-pub fn more(name: &[u8], file: &[u8], selection: &[u8], row: usize) {
+fn places(count: usize) {
+    text(b": places");
+    number(count);
+    text(b"\n");
+}
+
+// The name and the answer of spare places.
+pub fn spare(name: &[u8], file: &[u8], selection: &[u8], row: usize) {
     text(name);
-    let answer = one_more(file, selection, row);
+    let answer = spare_places(file, selection, row);
     match answer {
-        OneMore::Yes => text(b": yes\n"),
-        OneMore::No => text(b": no\n"),
-        OneMore::Refused(why) => refused(why),
+        Spare::Places(count) => places(count),
+        Spare::Refused(why) => refused(why),
     }
 }

@@ -6,7 +6,7 @@ use native.Mathlib.Omega.{arith}
 use Rattle.claimfile.specs.declared.Refusal.{Refusal}
 use Rattle.claimfile.specs.declared.Refusal.the-variants.{CutOff, GroupCount, Parent, ClaimCount, NoSuchGroup, Kind, Trailing}
 use Rattle.refusal.specs.declared.Reason.{Reason}
-use Rattle.refusal.specs.declared.Reason.the-variants.{File, Short, Value}
+use Rattle.refusal.specs.declared.Reason.the-variants.{File, Short, Value, Selected}
 use Rattle.refusal.specs.Table.{fileNumber, numberOf}
 
 file-some : (why : Refusal) → 0 < fileNumber why
@@ -22,6 +22,7 @@ pub number-some : (why : Reason) → 0 < numberOf why
 number-some (File why) = file-some why
 number-some Short = omega arith
 number-some Value = omega arith
+number-some Selected = omega arith
 
 file-most : (why : Refusal) → fileNumber why < 100
 file-most CutOff = omega arith
@@ -36,3 +37,4 @@ pub number-most : (why : Reason) → numberOf why < 100
 number-most (File why) = file-most why
 number-most Short = omega arith
 number-most Value = omega arith
+number-most Selected = omega arith

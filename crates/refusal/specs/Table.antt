@@ -1,11 +1,11 @@
--- Document 01's table of refusals ("Turned-away files").
+-- Document 01's table of refusals ("Turned-away files"), with the numbers that document 02 adds.
 --   fileNumber why         the number of a fault of the file, 1 to 7
 --   numberOf why           the number of each reason why a call is turned away
 use Prim.Native.Nat.{ℕ}
 use Rattle.claimfile.specs.declared.Refusal.{Refusal}
 use Rattle.claimfile.specs.declared.Refusal.the-variants.{CutOff, GroupCount, Parent, ClaimCount, NoSuchGroup, Kind, Trailing}
 use Rattle.refusal.specs.declared.Reason.{Reason}
-use Rattle.refusal.specs.declared.Reason.the-variants.{File, Short, Value}
+use Rattle.refusal.specs.declared.Reason.the-variants.{File, Short, Value, Selected}
 
 abbrev pub fileNumber : Refusal → ℕ
 -- "the file ends before or inside a count or record that is due"
@@ -29,3 +29,5 @@ numberOf (File why) = fileNumber why
 numberOf Short = 8
 -- "a selection byte is over 1, a side is over 1, or a row is not below N"
 numberOf Value = 9
+-- "the row is already in the selection"
+numberOf Selected = 10

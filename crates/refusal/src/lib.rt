@@ -3,11 +3,13 @@ ghost use mathlib.Core.Path.{_≡_};
 ghost use Rattle.refusal.specs.Table.{fileNumber, numberOf};
 use claimfile::Refusal;
 
-// A fault of the file, a lent buffer or selection that is shorter than needed, a value that is out of range.
+// A fault of the file, a lent buffer or selection that is shorter than needed, a value that is out of range, a row that is in the
+// selection already.
 pub enum Reason {
     File(Refusal),
     Short,
     Value,
+    Selected,
 }
 
 // The number of a fault of the file.
@@ -33,5 +35,6 @@ pub fn number(why: Reason) -> u32
         Reason::File(refusal) => file_number(refusal),
         Reason::Short => 8,
         Reason::Value => 9,
+        Reason::Selected => 10,
     }
 }

@@ -8,6 +8,7 @@ pub mod PriorityLaws
 pub mod TestLaws
 pub mod EmbedLaws
 pub mod MatroidLaws
+pub mod SpareLaws
 pub mod RankLaws
 pub mod LandLaws
 pub mod RiseLaws

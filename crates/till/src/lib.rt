@@ -2,22 +2,22 @@
 //
 // A slice is passed as a pointer and a length. Each call on a file answers a struct of numbers by value. Only settle and the slip change lent memory.
 ghost use mathlib.Core.Path.{_≡_};
-ghost use Rattle.till.specs.Numbers.{FitsAndRankIs, OneMoreIs};
+ghost use Rattle.till.specs.Numbers.{FitsAndRankIs, SparePlacesIs};
 ghost use Rattle.till.specs.SettleNumbers.{SettleIs};
 ghost use Rattle.till.specs.SlipNumbers.{WriteSlipIs};
 ghost use Rattle.till.specs.Version.{version};
 use closing::Settled;
 use closing::settle;
-use limits::OneMore;
 use limits::Ranked;
+use limits::Spare;
 use limits::fits_and_rank;
-use limits::one_more;
+use limits::spare_places;
 use refusal::number;
 use slip::Slip;
 use slip::write_slip;
 
 // Which library this is. It rises by one with each change of a call, a needed length or an answer.
-pub const VERSION: u32 = 2;
+pub const VERSION: u32 = 3;
 
 // The refusal's number and zeros where the call is turned away; else 0, 1 where the selection fits and 0 where not, and its rank.
 #[repr(C)]
@@ -27,11 +27,11 @@ pub struct FitsAndRank {
     pub rank: u32,
 }
 
-// The refusal's number and 0 where the call is turned away; else 0, and 1 where the selection with the row fits and 0 where not.
+// The refusal's number and 0 where the call is turned away; else 0, and how many further claims like the row would fit.
 #[repr(C)]
-pub struct OneMoreAnswer {
+pub struct SparePlacesAnswer {
     pub refusal: u32,
-    pub yes: u32,
+    pub places: u32,
 }
 
 // The refusal's number and zeros where the call is turned away; else 0, how many kept rows are earned, how many rows are kept, and the
@@ -71,18 +71,20 @@ pub extern "C" fn claims_fits_and_rank(file: &[u8], selection: &[u8], side: u32)
     }
 }
 
-// Whether a selection with the row added fits both sides.
+// How many further claims like the row would fit beside a selection that does not hold it.
 #[no_mangle]
-pub extern "C" fn claims_one_more(file: &[u8], selection: &[u8], row: u32) -> OneMoreAnswer
-    ensures { λ r. ⌜ OneMoreIs (now (file .entry)) (now (selection .entry)) row r ⌝ }
+pub extern "C" fn claims_spare_places(file: &[u8], selection: &[u8], row: u32) -> SparePlacesAnswer
+    ensures { λ r. ⌜ SparePlacesIs (now (file .entry)) (now (selection .entry)) row r ⌝ }
 {
-    let answer = one_more(file, selection, row as usize);
+    let answer = spare_places(file, selection, row as usize);
     match answer {
-        OneMore::Yes => OneMoreAnswer { refusal: 0, yes: 1 },
-        OneMore::No => OneMoreAnswer { refusal: 0, yes: 0 },
-        OneMore::Refused(why) => OneMoreAnswer {
+        Spare::Places(places) => SparePlacesAnswer {
+            refusal: 0,
+            places: places as u32,
+        },
+        Spare::Refused(why) => SparePlacesAnswer {
             refusal: number(why),
-            yes: 0,
+            places: 0,
         },
     }
 }
