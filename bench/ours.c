@@ -44,6 +44,12 @@ static void make_slip(const struct file *day, const uint8_t *selection) {
     claims_write_slip(day->bytes, day->length, selection, MOST_ROWS, slip, CLAIMS_LONGEST_SLIP);
 }
 
+static void make_canonical(const struct file *day, const uint8_t *selection) {
+    static uint8_t canonical[CLAIMS_LONGEST_CANONICAL];
+    (void)selection;
+    claims_write_canonical(day->bytes, day->length, canonical, CLAIMS_LONGEST_CANONICAL);
+}
+
 static void make_version(const struct file *day, const uint8_t *selection) {
     (void)day, (void)selection;
     claims_version();
@@ -54,6 +60,7 @@ const struct call calls[] = {
     {"claims_fits_and_rank", make_fits_and_rank},
     {"claims_spare_places", make_spare_places},
     {"claims_write_slip", make_slip},
+    {"claims_write_canonical", make_canonical},
     {"claims_version", make_version},
 };
 const unsigned call_count = sizeof calls / sizeof *calls;

@@ -5,8 +5,8 @@
  * address. Of the C library it needs memset and memcpy at most. It has no variables of its own and uses no heap; docs/PERFORMANCE.md says
  * how much code it has and how much stack it takes.
  *
- * The calls keep no state. Only claims_settle and claims_write_slip change memory that is lent to them, and only where they answer no
- * refusal. Calls may be made from several threads at once, where what they are lent to change is not shared.
+ * The calls keep no state. Only claims_settle, claims_write_slip and claims_write_canonical change memory that is lent to them, and only
+ * where they answer no refusal. Calls may be made from several threads at once, where what they are lent to change is not shared.
  *
  * A pointer must not be null, even where the length beside it is 0, and as many elements must stand there as the length says. Buffers
  * that are lent to one call do not overlap.
@@ -25,7 +25,7 @@ extern "C" {
  * The version: which library this header describes. It rises by one with each release that changes a call, a needed length or an answer.
  * claims_version() tells the version of the library that a program is linked with.
  */
-#define CLAIMS_VERSION 3u
+#define CLAIMS_VERSION 4u
 
 /* The most that a file may hold. */
 #define CLAIMS_MOST_GROUPS 256u   /* in one section, card groups or shop groups */
@@ -33,15 +33,16 @@ extern "C" {
 #define CLAIMS_LONGEST_FILE 4614u /* bytes: all three sections are full */
 
 /*
- * The lengths that a call needs, counted in elements: bytes of a selection, of the choice and of the slip, numbers of 32 bits of the sheet and
- * of the scratch. `claims` is the file's number of claims, `groups` that of its card groups and shop groups together, and `kept` that of
- * the selection's bytes that are 1.
+ * The lengths that a call needs, counted in elements: bytes of a selection, of the choice, of the slip and of the canonical file, numbers of
+ * 32 bits of the sheet and of the scratch. `claims` is the file's number of claims, `groups` that of its card groups and shop groups
+ * together, `kept` that of the selection's bytes that are 1, and `file_length` that of the file's bytes.
  */
 #define CLAIMS_SELECTION_LENGTH(claims) (claims)
 #define CLAIMS_CHOICE_LENGTH(claims) (claims)
 #define CLAIMS_SHEET_LENGTH(groups, claims) ((groups) + (claims))
 #define CLAIMS_SCRATCH_LENGTH(groups, claims) (8u * ((groups) + (claims)))
 #define CLAIMS_SLIP_LENGTH(kept) (33u * ((kept) + 1u))
+#define CLAIMS_CANONICAL_LENGTH(file_length) (file_length)
 
 /* The same at most: buffers of these lengths serve every file. */
 #define CLAIMS_LONGEST_SELECTION 512u
@@ -49,6 +50,7 @@ extern "C" {
 #define CLAIMS_LONGEST_SHEET 1024u
 #define CLAIMS_LONGEST_SCRATCH 8192u
 #define CLAIMS_LONGEST_SLIP 16929u
+#define CLAIMS_LONGEST_CANONICAL 4614u
 
 /* The two sides of a day. */
 #define CLAIMS_CARD 0u
@@ -56,7 +58,7 @@ extern "C" {
 
 /*
  * Why a call is turned away: the numbers of document 01. The file is judged first (1 to 7), then the length of the selection or of the
- * lent buffers (8), then the values (9), then what a number says beside its line.
+ * lent buffers (8), then the values (9). A number after 9 is told by the call that stands beside it, and judged last.
  */
 #define CLAIMS_CUT_OFF 1u       /* the file ends before or inside a count or record that is due */
 #define CLAIMS_GROUP_COUNT 2u   /* a group count is over 256 */
@@ -94,6 +96,12 @@ struct claims_settle_answer {
 struct claims_write_slip_answer {
     uint32_t refusal; /* 0, or the number of the reason why the call is turned away; the other field is 0 then */
     uint64_t length;  /* how many bytes were written: 33 for each kept row and for the first line */
+};
+
+/* What claims_write_canonical answers. */
+struct claims_write_canonical_answer {
+    uint32_t refusal; /* 0, or the number of the reason why the call is turned away; the other field is 0 then */
+    uint64_t length;  /* how many bytes were written, at most as many as the file has */
 };
 
 /* The version of the library. Where it is not CLAIMS_VERSION, this header describes another one. */
@@ -161,6 +169,20 @@ struct claims_write_slip_answer claims_write_slip(
     const uint8_t *file, size_t file_length,
     const uint8_t *selection, size_t selection_length,
     uint8_t *slip, size_t slip_length);
+
+/*
+ * Writes the canonical form of a file: one file for all that differ only in how their groups are numbered and in groups without claims.
+ * Groups with no claim in them or beneath them are dropped. The others are numbered by the lowest row that counts in them, a parent
+ * before its child where these are equal. Rows keep their order and kinds. Two files give the same bytes exactly where they are the same
+ * day in this sense. The written file is accepted by every call, and settled it keeps the same rows. A longer buffer is accepted; what
+ * lies past the written length is neither read nor changed. Where a refusal is answered, no byte is changed.
+ *
+ * file, file_length              the claim file
+ * canonical, canonical_length    CLAIMS_CANONICAL_LENGTH(file_length) bytes at least, as many as the file has
+ */
+struct claims_write_canonical_answer claims_write_canonical(
+    const uint8_t *file, size_t file_length,
+    uint8_t *canonical, size_t canonical_length);
 
 #ifdef __cplusplus
 }

@@ -5,7 +5,7 @@
 static struct file file;
 static uint8_t choice[CLAIMS_LONGEST_CHOICE];
 static uint32_t sheet[CLAIMS_LONGEST_SHEET], scratch[CLAIMS_LONGEST_SCRATCH];
-static uint8_t slip[CLAIMS_LONGEST_SLIP];
+static uint8_t slip[CLAIMS_LONGEST_SLIP], canonical[CLAIMS_LONGEST_CANONICAL];
 static const uint8_t no_row[CLAIMS_LONGEST_SELECTION];
 
 /* The refusal of a call on the file, which is that of the day. Settle has buffers so many cells shorter than the macros say. */
@@ -30,6 +30,10 @@ static unsigned slip_with(size_t length, size_t slip_length) {
     return claims_write_slip(file.bytes, file.length, no_row, length, slip, slip_length).refusal;
 }
 
+static unsigned canonical_with(size_t length) {
+    return claims_write_canonical(file.bytes, file.length, canonical, length).refusal;
+}
+
 /* The lengths suffice, and no call takes a shorter one. */
 static void lengths(const struct day *d) {
     size_t selection = CLAIMS_SELECTION_LENGTH(d->rows);
@@ -38,6 +42,8 @@ static void lengths(const struct day *d) {
     expect(ranked_with(selection) == 0, "fits and rank with the needed length");
     expect(slip_with(selection, CLAIMS_SLIP_LENGTH(0)) == 0, "the slip with the needed lengths");
     expect(slip_with(selection, CLAIMS_SLIP_LENGTH(0) - 1) == CLAIMS_SHORT, "a slip one short");
+    expect(canonical_with(CLAIMS_CANONICAL_LENGTH(file.length)) == 0, "the canonical form with the needed length");
+    expect(canonical_with(CLAIMS_CANONICAL_LENGTH(file.length) - 1) == CLAIMS_SHORT, "a canonical form one short");
     expect(settled_with(d, 0, 1, 0) == CLAIMS_SHORT, "a sheet one short");
     expect(settled_with(d, 0, 0, 1) == CLAIMS_SHORT, "a scratch one short");
     if (d->rows == 0) return;
@@ -64,6 +70,7 @@ int main(void) {
     expect(CLAIMS_LONGEST_SHEET == CLAIMS_SHEET_LENGTH(2 * CLAIMS_MOST_GROUPS, CLAIMS_MOST_CLAIMS), "the longest sheet");
     expect(CLAIMS_LONGEST_SCRATCH == CLAIMS_SCRATCH_LENGTH(2 * CLAIMS_MOST_GROUPS, CLAIMS_MOST_CLAIMS), "the longest scratch");
     expect(CLAIMS_LONGEST_SLIP == CLAIMS_SLIP_LENGTH(CLAIMS_MOST_CLAIMS), "the longest slip");
+    expect(CLAIMS_LONGEST_CANONICAL == CLAIMS_CANONICAL_LENGTH(CLAIMS_LONGEST_FILE), "the longest canonical form");
 
     struct day d = largest_day();
     lengths(&d);

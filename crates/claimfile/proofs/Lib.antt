@@ -2,3 +2,6 @@
 pub mod FileLaws
 pub mod AcceptedLaws
 pub mod DayLaws
+pub mod PutLaws
+pub mod WrittenLaws
+pub mod BegunLaws

@@ -1,8 +1,10 @@
 // The claim file: its sections, the first fault in it, and its records.
 //
 // `read` takes any bytes and says whether they are an accepted file, with its counts and the places of its sections, or why they
-// are refused. `group_of` and `claim_of` read one record of an accepted file. No other crate knows how wide a record is or where
-// its fields are.
+// are refused. `group_of` and `claim_of` read one record of an accepted file. The functions of `write` put counts and records
+// into a lent buffer. No other crate knows how wide a record is or where its fields are.
+pub mod write;
+
 ghost use mathlib.Core.Path.{_≡_};
 ghost use Prim.Native.Nat.{_+_, _*_, _<_, _≤_};
 ghost use lib.ListN.{length};

@@ -2,3 +2,4 @@
 pub mod NumberLaws
 pub mod SettleNumberLaws
 pub mod SlipNumberLaws
+pub mod CanonicalNumberLaws

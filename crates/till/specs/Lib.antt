@@ -2,4 +2,5 @@
 pub mod Numbers
 pub mod SettleNumbers
 pub mod SlipNumbers
+pub mod CanonicalNumbers
 pub mod Version

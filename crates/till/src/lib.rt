@@ -1,11 +1,15 @@
 // The calls for the till's own program, which is in C: c/claims.h declares them.
 //
-// A slice is passed as a pointer and a length. Each call on a file answers a struct of numbers by value. Only settle and the slip change lent memory.
+// A slice is passed as a pointer and a length. Each call on a file answers a struct of numbers by value. Only settle, the slip and the
+// canonical form change lent memory.
 ghost use mathlib.Core.Path.{_≡_};
+ghost use Rattle.till.specs.CanonicalNumbers.{WriteCanonicalIs};
 ghost use Rattle.till.specs.Numbers.{FitsAndRankIs, SparePlacesIs};
 ghost use Rattle.till.specs.SettleNumbers.{SettleIs};
 ghost use Rattle.till.specs.SlipNumbers.{WriteSlipIs};
 ghost use Rattle.till.specs.Version.{version};
+use canonical::Canonical;
+use canonical::write_canonical;
 use closing::Settled;
 use closing::settle;
 use limits::Ranked;
@@ -17,7 +21,7 @@ use slip::Slip;
 use slip::write_slip;
 
 // Which library this is. It rises by one with each change of a call, a needed length or an answer.
-pub const VERSION: u32 = 3;
+pub const VERSION: u32 = 4;
 
 // The refusal's number and zeros where the call is turned away; else 0, 1 where the selection fits and 0 where not, and its rank.
 #[repr(C)]
@@ -47,6 +51,13 @@ pub struct SettleAnswer {
 // The refusal's number and 0 where the call is turned away; else 0, and how many bytes were written.
 #[repr(C)]
 pub struct WriteSlipAnswer {
+    pub refusal: u32,
+    pub length: u64,
+}
+
+// The refusal's number and 0 where the call is turned away; else 0, and how many bytes were written.
+#[repr(C)]
+pub struct WriteCanonicalAnswer {
     pub refusal: u32,
     pub length: u64,
 }
@@ -132,6 +143,24 @@ pub extern "C" fn claims_write_slip(
             length: length as u64,
         },
         Slip::Refused(why) => WriteSlipAnswer {
+            refusal: number(why),
+            length: 0,
+        },
+    }
+}
+
+// Writes the canonical form of a file.
+#[no_mangle]
+pub extern "C" fn claims_write_canonical(file: &[u8], canonical: &mut [u8]) -> WriteCanonicalAnswer
+    ensures { λ r. ⌜ WriteCanonicalIs (now (file .entry)) (now (canonical .entry)) (now (canonical .exit)) r ⌝ }
+{
+    let written = write_canonical(file, canonical);
+    match written {
+        Canonical::Written(length) => WriteCanonicalAnswer {
+            refusal: 0,
+            length: length as u64,
+        },
+        Canonical::Refused(why) => WriteCanonicalAnswer {
             refusal: number(why),
             length: 0,
         },

@@ -1,0 +1,250 @@
+/*
+ * Tests of claims_write_canonical: a sample and worked files; random days against a form that qsort makes from the day's tables; the same day in other
+ * group numbers and with groups that no claim needs; days that differ in one field. The written file settled gives the same choice.
+ * Buffers are exact, one short and longer, and hold other bytes before each call.
+ */
+#include <stdio.h>
+#include <stdlib.h>
+#include <string.h>
+#include "claims.h"
+#include "day.h"
+
+enum { PAST = 5, CELLS = MOST_FILE + PAST };
+
+static uint8_t out[CELLS];
+
+/* What a cell holds before a call. It differs from call to call. */
+static unsigned turn;
+static uint8_t filler(size_t i) { return (uint8_t)((i + turn) * 2654435761u >> 13); }
+
+static struct claims_write_canonical_answer write_in(const struct file *f, size_t cells) {
+    turn++;
+    for (size_t i = 0; i < CELLS; i++) out[i] = filler(i);
+    return claims_write_canonical(f->bytes, f->length, out, cells);
+}
+
+/* Whether the cells from a place on hold what they held before. */
+static int untouched(size_t from) {
+    for (size_t i = from; i < CELLS; i++)
+        if (out[i] != filler(i)) return 0;
+    return 1;
+}
+
+static void turned_away(const char *what, const struct file *f, size_t cells, unsigned number) {
+    struct claims_write_canonical_answer r = write_in(f, cells);
+    expect(r.refusal == number && r.length == 0 && untouched(0), "%s: %u, but must be %u", what, (unsigned)r.refusal, number);
+}
+
+/* A file written into a buffer of so many cells is just the form. */
+static void written(const char *what, const struct file *f, size_t cells, const struct file *form) {
+    struct claims_write_canonical_answer r = write_in(f, cells);
+    expect(r.refusal == 0 && r.length == form->length, "%s: the answer", what);
+    expect(memcmp(out, form->bytes, form->length) == 0, "%s: the bytes", what);
+    expect(untouched(form->length), "%s: a byte past the form is changed", what);
+}
+
+/* ---- The form by a sort ---- */
+
+/* Of the groups of a side: the lowest row that counts in each, MOST_ROWS where none does, and how many groups are above it. */
+static unsigned lowest[MOST_GROUPS], depth[MOST_GROUPS];
+
+static int earlier(const void *x, const void *y) {
+    unsigned a = *(const unsigned *)x, b = *(const unsigned *)y;
+    if (lowest[a] != lowest[b]) return lowest[a] < lowest[b] ? -1 : 1;
+    return depth[a] < depth[b] ? -1 : depth[a] > depth[b];
+}
+
+static void sort_side(const struct day *d, unsigned side, struct day *form) {
+    unsigned order[MOST_GROUPS], number[MOST_GROUPS], used = 0;
+    for (unsigned g = 0; g < d->groups[side]; g++) {
+        lowest[g] = MOST_ROWS;
+        depth[g] = d->parent[side][g] == TOP ? 0 : depth[d->parent[side][g]] + 1;
+    }
+    for (unsigned c = d->rows; c-- > 0;)
+        for (unsigned g = d->group[side][c]; g != TOP; g = d->parent[side][g]) lowest[g] = c;
+    for (unsigned g = 0; g < d->groups[side]; g++)
+        if (lowest[g] < MOST_ROWS) order[used++] = g;
+    qsort(order, used, sizeof *order, earlier);
+    for (unsigned i = 0; i < used; i++) number[order[i]] = i;
+    form->groups[side] = used;
+    for (unsigned i = 0; i < used; i++) {
+        unsigned above = d->parent[side][order[i]];
+        form->parent[side][i] = (uint16_t)(above == TOP ? TOP : number[above]);
+        form->limit[side][i] = d->limit[side][order[i]];
+    }
+    for (unsigned c = 0; c < d->rows; c++) form->group[side][c] = (uint16_t)number[d->group[side][c]];
+}
+
+static struct day sorted(const struct day *d) {
+    struct day form = *d;
+    for (unsigned side = 0; side < 2; side++) sort_side(d, side, &form);
+    return form;
+}
+
+/* ---- The same day in other numbers ---- */
+
+/* Group `next` of a side that no claim needs. */
+static void add_unused(struct day *d, unsigned side, unsigned next) {
+    d->parent[side][next] = (uint16_t)(next == 0 || below(2) ? TOP : below(next));
+    d->limit[side][next] = (uint16_t)below(TOP + 1);
+}
+
+/* The groups of a side in any order, parents before children, with up to `more` between them that no claim needs. */
+static void shuffle_side(const struct day *d, unsigned side, unsigned more, struct day *other) {
+    unsigned number[MOST_GROUPS], next = 0, left = d->groups[side];
+    uint8_t done[MOST_GROUPS] = {0};
+    while (left > 0) {
+        if (more > 0 && next + left < MOST_GROUPS && below(3) == 0) {
+            add_unused(other, side, next++);
+            more--;
+            continue;
+        }
+        unsigned g = below(d->groups[side]), above = d->parent[side][g];
+        if (done[g] || (above != TOP && !done[above])) continue;
+        done[g] = 1, left--;
+        other->parent[side][next] = (uint16_t)(above == TOP ? TOP : number[above]);
+        other->limit[side][next] = d->limit[side][g];
+        number[g] = next++;
+    }
+    other->groups[side] = next;
+    for (unsigned c = 0; c < d->rows; c++) other->group[side][c] = (uint16_t)number[d->group[side][c]];
+}
+
+static struct day shuffled(const struct day *d, unsigned more) {
+    struct day other = *d;
+    for (unsigned side = 0; side < 2; side++) shuffle_side(d, side, more, &other);
+    return other;
+}
+
+/* ---- Days ---- */
+
+/* The file and its form settled: the same counts and the same choice. */
+static void settled_alike(const struct file *f, const struct file *form) {
+    static uint8_t choice[2][MOST_ROWS];
+    static uint32_t sheet[CLAIMS_LONGEST_SHEET], scratch[CLAIMS_LONGEST_SCRATCH];
+    const struct file *files[] = {f, form};
+    struct claims_settle_answer told[2];
+    memset(choice, 0, sizeof choice);
+    for (int i = 0; i < 2; i++)
+        told[i] = claims_settle(files[i]->bytes, files[i]->length, choice[i], MOST_ROWS, sheet, CLAIMS_LONGEST_SHEET, scratch,
+                                CLAIMS_LONGEST_SCRATCH);
+    expect(told[0].refusal == 0 && told[1].refusal == 0, "both are settled");
+    expect(told[0].earned == told[1].earned && told[0].kept == told[1].kept, "the same counts");
+    expect(memcmp(choice[0], choice[1], MOST_ROWS) == 0, "the same choice");
+}
+
+/* One field of a group that a row names, or of a row, changed: other bytes. */
+static void changed(const struct day *d, const struct file *form) {
+    static struct file f;
+    for (unsigned what = 0; what < 4; what++) {
+        struct day e = *d;
+        unsigned c = below(d->rows), side = below(2), g = d->group[side][c], other = below(d->groups[side]);
+        switch (what) {
+        case 0: e.limit[side][g] ^= 1; break;
+        case 1: e.kind[c] ^= 1; break;
+        case 2: e.parent[side][g] = (uint16_t)(d->parent[side][g] != TOP ? TOP : g == 0 ? TOP : g - 1); break;
+        default: e.group[side][c] = (uint16_t)other;
+        }
+        if (what == 2 && e.parent[side][g] == d->parent[side][g]) continue;
+        struct day a = sorted(d), b = sorted(&e);
+        if (what == 3 && (other == g || memcmp(&a, &b, sizeof a) == 0)) continue;
+        write_day(&e, &f);
+        struct claims_write_canonical_answer r = write_in(&f, f.length);
+        expect(r.refusal == 0 && (r.length != form->length || memcmp(out, form->bytes, form->length) != 0), "change %u: the same bytes",
+               what);
+    }
+}
+
+static void one_day(const struct day *d) {
+    static struct file f, form;
+    struct day e = sorted(d);
+    write_day(d, &f);
+    write_day(&e, &form);
+    written("exact", &f, f.length, &form);
+    written("longer", &f, f.length + below(PAST), &form);
+    turned_away("one short", &f, f.length - 1, CLAIMS_SHORT);
+    expect(form.length <= f.length, "no longer than the file");
+    written("the form of the form", &form, form.length, &form);
+    settled_alike(&f, &form);
+    e = shuffled(d, below(20));
+    write_day(&e, &f);
+    written("shuffled", &f, f.length, &form);
+    if (d->rows > 0) changed(d, &form);
+}
+
+static void random_days(const char *name, unsigned days, unsigned groups, unsigned rows) {
+    for (unsigned i = 0; i < days; i++) {
+        struct day d = random_day(groups, rows);
+        one_day(&d);
+    }
+    part_done(name);
+}
+
+/* 256 groups in one chain on each side, named from its end, from its middle, and in any order. */
+static void chains(void) {
+    for (unsigned i = 0; i < 6; i++) {
+        struct day d = chain_day(3);
+        for (unsigned c = 0; c < d.rows; c++)
+            for (unsigned side = 0; side < 2; side++)
+                d.group[side][c] = (uint16_t)(i == 0 ? MOST_GROUPS - 1 : i == 1 ? MOST_GROUPS / 2 : below(MOST_GROUPS));
+        one_day(&d);
+    }
+    part_done("chains");
+}
+
+static void read_sample(const char *name, struct file *f) {
+    FILE *in = fopen(name, "rb");
+    f->length = in == NULL ? 0 : fread(f->bytes, 1, sizeof f->bytes, in);
+    expect(f->length > 0, "%s cannot be read", name);
+    if (in != NULL) fclose(in);
+}
+
+/*
+ * The sample: card groups 0 (limit 9, no claim), 1 (limit 5), 2 (limit 7, in 1) and 3 (limit 2); row 0 names 3, row 1 names 2. In its form
+ * card group 3 is 0, and 1 and 2 keep their numbers, since group 0 is dropped.
+ */
+static void worked(void) {
+    static struct file f, form;
+    read_sample("samples/shelf.claims", &f);
+    read_sample("samples/shelf_canonical.claims", &form);
+    written("the sample", &f, f.length, &form);
+    struct day none = flat_day(3, 1, 2, 1), empty = {0};
+    write_day(&none, &f);
+    write_day(&empty, &form);
+    written("no claim: every group is dropped", &f, f.length, &form);
+    one_day(&empty);
+    part_done("worked files");
+}
+
+/* A faulty file is refused by its own number, whatever the buffer. */
+static void broken_files(const char *name, unsigned files) {
+    for (unsigned i = 0; i < files; i++) {
+        struct day d = random_day(4, 6), read;
+        static struct file f;
+        write_day(&d, &f);
+        switch (below(4)) {
+        case 0: f.length = below((unsigned)f.length); break;
+        case 1: f.bytes[f.length++] = (uint8_t)below(UINT8_MAX + 1); break;
+        default: f.bytes[below((unsigned)f.length)] = (uint8_t)below(4);
+        }
+        unsigned number = read_day(f.bytes, f.length, &read);
+        if (number != 0) {
+            turned_away(name, &f, CELLS, number);
+            turned_away(name, &f, 0, number);
+        } else if (f.length > 0) {
+            turned_away(name, &f, 0, CLAIMS_SHORT);
+        }
+    }
+    part_done(name);
+}
+
+int main(void) {
+    start_numbers(20270304);
+    worked();
+    random_days("random tiny days", 3000, 6, 8);
+    random_days("random small days", 600, 20, 30);
+    random_days("random large days", 40, MOST_GROUPS, MOST_ROWS);
+    chains();
+    broken_files("broken files", 2000);
+    return all_done();
+}

@@ -1,0 +1,180 @@
+-- Laws of what the canonical file of a sound file holds.
+--   word-of word-fits word-back    the number that stands in a record for a parent may stand there, and reads back
+--   newSide s l side       a side in the new numbers
+--   written s l            the bytes of the canonical file
+--   writtenSide s l side   a side of the canonical file, as it is read
+--   records-on             the canonical file has the groups of a side in the new numbers
+--   canonical-proper       a file may hold what the canonical file holds
+--   written-alike          its sides are those in the new numbers
+--   written-same           it holds the same day as the file read
+--   claim-alike            claims with the same fields are the same
+--   same-written           files of the same day have the same canonical file
+use mathlib.Core.Path.{_≡_, refl, sym, ap, ap₂, _∙_}
+use mathlib.Core.Logic.{_⊎_, inl, inr}
+use mathlib.Core.List.{List}
+use Prim.Native.Nat.{ℕ, zero, suc, _+_, _*_, _≤_, _<_}
+use native.Mathlib.Omega.{arith}
+use lib.Dec.{ltb}
+use borrow.Author.Tests.{lt-ltb, le-ltb}
+use Rattle.theory.specs.Bounds.{maxGroups, maxLimit}
+use Rattle.theory.specs.Sum.{pick}
+use Rattle.claimfile.specs.declared.Layout.{Layout}
+use Rattle.claimfile.specs.declared.Group.{Group}
+use Rattle.claimfile.specs.declared.Claim.{Claim}
+use Rattle.claimfile.specs.File.{top, groupWidth}
+use Rattle.claimfile.specs.Day.{startOf, countOf, groupOf, claimOf}
+use Rattle.claimfile.specs.Sound.{SmallerOrTop, Sound}
+use Rattle.claimfile.specs.Written.{recordsOn, fileBytes, Proper}
+use Rattle.claimfile.proofs.AcceptedLaws.{accepted-sound}
+use Rattle.claimfile.proofs.DayLaws.{side-most}
+use Rattle.claimfile.proofs.WrittenLaws.{written-accepted, written-group, written-claim, same-contents}
+use Rattle.limits.specs.Side.{parentBy, limitIn}
+use Rattle.limits.proofs.ChainLaws.{parent-lower, parent-root}
+use Rattle.canonical.specs.Side.{Side, group, canonicalSide}
+use Rattle.canonical.specs.Canonical.{sideOf, parentWord, recordOf, canonicalContents, canonicalLayout, Bytes, SameDay}
+use Rattle.canonical.proofs.ChainLaws.{SoundSide}
+use Rattle.canonical.proofs.MapLaws.{AlikeSides, alike-renumbered, renumbered-trans}
+use Rattle.canonical.proofs.SideLaws.{few-groups, canonical-side-sound, canonical-side-renumbered, canonical-side-alike}
+use Rattle.canonical.proofs.DayLaws.{side-sound}
+
+--------------------------------------------------------------------------------
+-- The number for a parent
+
+module _ {d : Side} (sound : SoundSide d) (g : ℕ) (inside : g < d .groups) where
+  word-of :
+      ((d .parent g < g) × (parentWord d g ≡ d .parent g)) ⊎ ((d .parent g ≡ d .groups) × (parentWord d g ≡ top))
+  word-of =
+      elim (sound .rooted g inside) [
+        | inl h ↦
+            let lower : d .parent g < d .groups = omega arith in
+            inl (h, rw (lt-ltb _ _ lower))
+        | inr e ↦
+            let past : d .groups ≤ d .parent g = omega arith in
+            inr (e, rw (le-ltb _ _ past))
+      ]
+
+  word-fits : SmallerOrTop g (parentWord d g)
+  word-fits = elim word-of [ inl q ↦ inl (omega (arith, q .0, q .1)) | inr q ↦ inr (q .1) ]
+
+  word-back : d .groups ≤ maxGroups → parentBy (d .groups) (parentWord d g) g ≡ d .parent g
+  word-back most =
+      elim word-of [
+        | inl q ↦ read (q .1) ∙ sym (parent-lower (d .groups) (d .parent g) g (q .0))
+        | inr q ↦ read (q .1) ∙ sym (parent-root (d .groups) top g (omega arith)) ∙ sym (q .0)
+      ]
+    where
+      read : {u : ℕ} → parentWord d g ≡ u → parentBy (d .groups) (parentWord d g) g ≡ parentBy (d .groups) u g
+      read e = ap (λ (x : ℕ). parentBy (d .groups) x g) e
+
+--------------------------------------------------------------------------------
+-- What the canonical file holds
+
+abbrev newSide : List ℕ → Layout → ℕ → Side
+newSide s l side = canonicalSide (sideOf s l side)
+
+abbrev written : List ℕ → Layout → List ℕ
+written s l = fileBytes (canonicalContents s l)
+
+abbrev writtenSide : List ℕ → Layout → ℕ → Side
+writtenSide s l side = sideOf (written s l) (canonicalLayout s l) side
+
+-- one law for both sides
+pub records-on : (s : List ℕ) (l : Layout) (side : ℕ) → recordsOn (canonicalContents s l) side ≡ newSide s l side .groups
+records-on s l zero = refl
+records-on s l (suc n) = refl
+
+count-on : (s : List ℕ) (l : Layout) (side : ℕ) → countOf (canonicalLayout s l) side ≡ newSide s l side .groups
+count-on s l zero = refl
+count-on s l (suc n) = refl
+
+module _ {s : List ℕ} {l : Layout} (sound : Sound s l) where
+  new-sound : (side : ℕ) → SoundSide (newSide s l side)
+  new-sound side = canonical-side-sound (side-sound sound side)
+
+  new-most : (side : ℕ) → newSide s l side .groups ≤ maxGroups
+  new-most side = omega (arith, few-groups (sideOf s l side), side-most s l sound side)
+
+  module _ (bytes : Bytes s) where
+    limit-most : (side g : ℕ) → limitIn s l side g ≤ maxLimit
+    limit-most side g =
+        let at = startOf l side + groupWidth * g + 2 in
+        omega (arith, bytes at, bytes (at + 1))
+
+    pub canonical-proper : Proper (canonicalContents s l)
+    canonical-proper =
+        record {
+          sides = λ n g. refl;
+          cards-most = new-most 0;
+          shops-most = new-most 1;
+          rows-most = sound .rows-most;
+          parents = λ side g h. word-fits (new-sound side) g (omega (arith, records-on s l side));
+          limits = λ side g h. limit-most side (group (sideOf s l side) g);
+          claim-cards = new-sound 0 .named;
+          claim-shops = new-sound 1 .named;
+          claim-kinds = sound .row-kinds;
+        }
+
+    written-sound : Sound (written s l) (canonicalLayout s l)
+    written-sound =
+        accepted-sound (written s l) (canonicalLayout s l) (written-accepted (canonicalContents s l) canonical-proper)
+
+    group-back :
+        (side g : ℕ) → g < newSide s l side .groups →
+        groupOf (written s l) (canonicalLayout s l) side g ≡ recordOf (newSide s l side) g
+    group-back side g h =
+        written-group (canonicalContents s l) (canonical-proper .sides) side g (omega (arith, records-on s l side))
+
+    claim-back : (c : ℕ) → c < l .rows → claimOf (written s l) (canonicalLayout s l) c ≡ canonicalContents s l .claim c
+    claim-back = written-claim (canonicalContents s l)
+
+    named-back : (side c : ℕ) → c < l .rows → newSide s l side .names c ≡ writtenSide s l side .names c
+    named-back zero c h = sym (ap (λ (x : Claim). x .card) (claim-back c h))
+    named-back (suc n) c h = sym (ap (λ (x : Claim). x .shop) (claim-back c h))
+
+    written-alike : (side : ℕ) → AlikeSides (newSide s l side) (writtenSide s l side)
+    written-alike side =
+        record {
+          groups = sym (count-on s l side);
+          rows = refl;
+          parent = λ g h.
+              sym (word-back (new-sound side) g h (new-most side))
+              ∙ ap₂ (λ (n u : ℕ). parentBy n u g) (sym (count-on s l side))
+              (sym (ap (λ (x : Group). x .parent) (group-back side g h)));
+          limit = λ g h. sym (ap (λ (x : Group). x .limit) (group-back side g h));
+          names = named-back side;
+        }
+
+    pub written-same : SameDay s l (written s l) (canonicalLayout s l)
+    written-same =
+        record {
+          sides = λ side.
+              renumbered-trans (side-sound sound side) (new-sound side) (side-sound written-sound side)
+              (canonical-side-renumbered (side-sound sound side))
+              (alike-renumbered (new-sound side) (side-sound written-sound side) (written-alike side));
+          kinds = λ c h. sym (ap (λ (x : Claim). x .kind) (claim-back c h));
+        }
+
+record-alike : {c d : Side} → AlikeSides c d → (g : ℕ) → g < c .groups → recordOf c g ≡ recordOf d g
+record-alike a g h =
+    ap₂ {C = Group} (λ (p n : ℕ). record { parent = p; limit = n })
+    (ap₂ (λ (p n : ℕ). pick (ltb p n) p top) (a .parent g h) (a .groups)) (a .limit g h)
+
+pub claim-alike :
+    {a b x y k m : ℕ} → a ≡ x → b ≡ y → k ≡ m →
+    _≡_ {A = Claim} (record { card = a; shop = b; kind = k }) (record { card = x; shop = y; kind = m })
+claim-alike p q r = cc
+
+pub same-written :
+    {s : List ℕ} {k : Layout} {t : List ℕ} {l : Layout} → Sound s k → Sound t l → SameDay s k t l → written s k ≡ written t l
+same-written {s} {k} {t} {l} ss st same =
+    same-contents (canonicalContents s k) (canonicalContents t l)
+    (record {
+      cards = alike 0 .groups;
+      shops = alike 1 .groups;
+      rows = alike 0 .rows;
+      groups = λ side g h. record-alike (alike side) g (omega (arith, records-on s k side));
+      claims = λ c h. claim-alike (alike 0 .names c h) (alike 1 .names c h) (same .kinds c h);
+    })
+  where
+    alike : (side : ℕ) → AlikeSides (newSide s k side) (newSide t l side)
+    alike side = canonical-side-alike (side-sound ss side) (side-sound st side) (same .sides side)
