@@ -38,7 +38,7 @@ use Rattle.limits.proofs.ChainLaws.{parent-lower, parent-root}
 use Rattle.canonical.specs.Side.{Side, usedGroups, number, group, newParent}
 use Rattle.canonical.specs.Canonical.{named, sideOf, canonicalContents, canonicalLayout, Used}
 use Rattle.canonical.specs.Numbers.{Numbers}
-use Rattle.canonical.specs.Write.{over}
+use Rattle.refusal.specs.Writing.{over}
 use Rattle.canonical.specs.Parts.{parentFor, GroupsTo, PutTo, Given, Ready, Numbered, Tables, formOf}
 use Rattle.canonical.proofs.ChainLaws.{SoundSide}
 use Rattle.canonical.proofs.OrderLaws.{used-or-not, used-inside, named-used, parent-used}

@@ -8,8 +8,7 @@ use mathlib.Core.List.{List}
 use Prim.Native.Nat.{ℕ, _≤_, _<_}
 use native.Mathlib.Omega.{arith}
 use borrow.Author.Tests.{lt-ltb, le-ltb}
-use lib.ListN.{length, take, drop}
-use lib.Seq.{take-at}
+use lib.ListN.{length}
 use Rattle.theory.specs.Bounds.{maxGroups}
 use Rattle.claimfile.specs.declared.Layout.{Layout}
 use Rattle.claimfile.specs.declared.Refusal.{Refusal}
@@ -24,12 +23,12 @@ use Rattle.claimfile.proofs.BegunLaws.{length-for}
 use Rattle.claimfile.proofs.WrittenLaws.{written-length}
 use Rattle.refusal.specs.declared.Reason.{Reason}
 use Rattle.refusal.specs.declared.Reason.the-variants.{File, Short}
-use Rattle.refusal.proofs.TableLaws.{number-some}
-use Rattle.canonical.specs.declared.Canonical.{Canonical}
-use Rattle.canonical.specs.declared.Canonical.the-variants.{Written, Refused}
+use Rattle.refusal.specs.declared.Written.the-variants.{Bytes, Refused}
+use Rattle.refusal.specs.Writing.{over, turned, written}
+use Rattle.refusal.proofs.WritingLaws.{leaves-is}
 use Rattle.canonical.specs.Canonical.{sideOf, canonicalContents, canonicalLayout, canonical}
 use Rattle.canonical.specs.Numbers.{Numbers}
-use Rattle.canonical.specs.Write.{over, Outcome, turned, written, outcomeBy, outcome, toldBy, Writes}
+use Rattle.canonical.specs.Write.{outcomeBy, outcome, Writes}
 use Rattle.canonical.specs.Parts.{Tables, PutTo, Given, WritesOn}
 use Rattle.canonical.proofs.SideLaws.{few-groups}
 use Rattle.canonical.proofs.CanonicalLaws.{canonical-is}
@@ -88,34 +87,19 @@ module _ (s out : List ℕ) where
   unfolding outcome
   by x e = ap (outcomeBy s out) e
 
-  writes :
-      (out′ : List ℕ) (r : Canonical) (x : Outcome) → outcome s out ≡ x → r ≡ x .answer → out′ ≡ x .cells →
-      (toldBy r .number ≡ 0 → take (toldBy r .length) out′ ≡ canonical s) → Writes s out out′ r
-  writes out′ r x e p q means =
-      let is = p ∙ sym (ap (λ (y : Outcome). y .answer) e) in
-      record { answer = is; cells = q ∙ sym (ap (λ (y : Outcome). y .cells) e); told = ap toldBy is; means = means }
-
-  -- a number is told
-  turned-away : (why : Reason) → outcome s out ≡ turned why out → Writes s out out (Refused why)
-  turned-away why e =
-      writes out (Refused why) (turned why out) e refl refl (λ none. absurd (omega (arith, number-some why)))
+  away : (why : Reason) → outcome s out ≡ turned why out → Writes s out out (Refused why)
+  away why e = leaves-is (outcome s out) (turned why out) e out (Refused why) refl refl
 
   pub writes-refused : (why : Refusal) → reading s ≡ reading-is.Refused why → Writes s out out (Refused (File why))
-  writes-refused why e = turned-away (File why) (by (reading-is.Refused why) e)
+  writes-refused why e = away (File why) (by (reading-is.Refused why) e)
 
   module _ (l : Layout) (is : reading s ≡ reading-is.Accepted l) where
     pub writes-short : length out < length s → Writes s out out (Refused Short)
-    writes-short h = turned-away Short (by (reading-is.Accepted l) is ∙ rw (lt-ltb _ _ h))
+    writes-short h = away Short (by (reading-is.Accepted l) is ∙ rw (lt-ltb _ _ h))
 
     pub writes-written :
-        (out′ : List ℕ) (n : ℕ) → length s ≤ length out → WritesOn s l out out′ n → Writes s out out′ (Written n)
+        (out′ : List ℕ) (n : ℕ) → length s ≤ length out → WritesOn s l out out′ n → Writes s out out′ (Bytes n)
     writes-written out′ n long on =
-        writes out′ (Written n) (written (canonical s) out) (by (reading-is.Accepted l) is ∙ rw (le-ltb _ _ long))
-        (ap Written size) cells
-        (λ none. rw cells (take-at (canonical s) (drop (length (canonical s)) out) n (sym size)))
-      where
-        size : n ≡ length (canonical s)
-        size = on .answer ∙ ap (length {A = ℕ}) (sym (canonical-is s l is))
-
-        cells : out′ ≡ over (canonical s) out
-        cells = on .cells ∙ ap (λ (text : List ℕ). over text out) (sym (canonical-is s l is))
+        leaves-is (outcome s out) (written (canonical s) out) (by (reading-is.Accepted l) is ∙ rw (le-ltb _ _ long)) out′ (Bytes n)
+        (ap Bytes (on .answer ∙ ap (length {A = ℕ}) (sym (canonical-is s l is))))
+        (on .cells ∙ ap (λ (text : List ℕ). over text out) (sym (canonical-is s l is)))

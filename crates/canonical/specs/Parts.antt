@@ -27,7 +27,7 @@ use Rattle.claimfile.specs.Put.{Room, Begun}
 use Rattle.canonical.specs.Side.{group}
 use Rattle.canonical.specs.Canonical.{sideOf, canonicalContents, canonicalLayout}
 use Rattle.canonical.specs.Numbers.{Numbers}
-use Rattle.canonical.specs.Write.{over}
+use Rattle.refusal.specs.Writing.{over}
 
 abbrev pub parentFor : List ℕ → ℕ → ℕ → ℕ
 parentFor t g parent = pick (ltb parent g) (row t parent) top

@@ -29,13 +29,8 @@ use claimfile::write::put_counts;
 use claimfile::write::put_group;
 use number::number_side;
 use refusal::Reason;
+use refusal::Written;
 use theory::MAX_GROUPS;
-
-// How many bytes were written, or why nothing was.
-pub enum Canonical {
-    Written(usize),
-    Refused(Reason),
-}
 
 fn wide(x: u16) -> usize
     ensures { λ r. ⌜ (r ≡ x) × (r < 65536) ⌝ }
@@ -180,17 +175,17 @@ fn canonical_on(file: &[u8], layout: Layout, out: &mut [u8]) -> usize
 
 // Writes the canonical file of a file, and answers its length. The buffer is as long as the file read, or longer; its bytes past
 // the written length keep their values.
-pub fn write_canonical(file: &[u8], out: &mut [u8]) -> Canonical
+pub fn write_canonical(file: &[u8], out: &mut [u8]) -> Written
     ensures { λ r. ⌜ Writes (now (file .entry)) (now (out .entry)) (now (out .exit)) r ⌝ }
 {
     let reading = read(file);
     match reading {
-        Reading::Refused(why) => Canonical::Refused(Reason::File(why)),
+        Reading::Refused(why) => Written::Refused(Reason::File(why)),
         Reading::Accepted(layout) => {
             if out.len() < file.len() {
-                return Canonical::Refused(Reason::Short);
+                return Written::Refused(Reason::Short);
             }
-            Canonical::Written(canonical_on(file, layout, out))
+            Written::Bytes(canonical_on(file, layout, out))
         }
     }
 }

@@ -1,4 +1,5 @@
-// Why a call is turned away: one enum for all calls, and document 01's number for each reason.
+// Why a call is turned away: one enum for all calls, and document 01's number for each reason. What a call answers that writes into a
+// lent buffer stands here too, since every such call is turned away or answers a length.
 ghost use mathlib.Core.Path.{_≡_};
 ghost use Rattle.refusal.specs.Table.{fileNumber, numberOf};
 use claimfile::Refusal;
@@ -10,6 +11,12 @@ pub enum Reason {
     Short,
     Value,
     Selected,
+}
+
+// What a call answers that writes into a lent buffer: how many bytes were written, or why none were.
+pub enum Written {
+    Bytes(usize),
+    Refused(Reason),
 }
 
 // The number of a fault of the file.

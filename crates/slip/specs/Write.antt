@@ -2,21 +2,16 @@
 --   width                  how many bytes a line has, with its line feed
 --   needed l sel           how many bytes the slip has: a line for each kept row, and the first
 --   lacks l sel out        whether the selection or the buffer is too short
---   Outcome                an answer with all cells of the buffer afterwards
---   turned why out         turned away, and no cell is changed
---   written text out       the text stands at the buffer's start, and the cells behind it are as before
 --   outcomeOn s l sel out  the outcome for an accepted file: 8, then 9, else the slip
 --   outcomeBy s sel out x  the outcome for a file s with the reading x: its own faults come first
 --   outcome s sel out      the outcome for a file
---   Told, toldBy r         document 01's number and the length for each case of the answer r
 --   Covers s l sel         what the parts of writing ask: the file is sound, and the selection has a byte for each row
 --   WritesOn s l sel out out′ r    for an accepted file, the answer r and the cells out′ are the outcome
---   Slips s sel out out′ r the whole contract: the answer r and the cells out′ are the outcome, and so are number and length
+--   Slips s sel out out′ r the whole contract: the answer r and the cells out′ are the outcome, and so are number and length (`Leaves`)
 use Prim.Native.Nat.{ℕ, _+_, _*_, _≤_}
-use mathlib.Core.Path.{_≡_}
 use mathlib.Core.Bool.{Bool, true}
-use mathlib.Core.List.{List, _++_}
-use lib.ListN.{length, drop}
+use mathlib.Core.List.{List}
+use lib.ListN.{length}
 use lib.Dec.{ltb}
 use Rattle.theory.specs.Sum.{pick}
 use Rattle.claimfile.specs.declared.Layout.{Layout}
@@ -24,13 +19,11 @@ use Rattle.claimfile.specs.declared.Reading.{Reading}
 use Rattle.claimfile.specs.declared.Reading.the-variants as reading-is
 use Rattle.claimfile.specs.File.{reading}
 use Rattle.claimfile.specs.Sound.{Sound}
-use Rattle.refusal.specs.declared.Reason.{Reason}
+use Rattle.refusal.specs.declared.Written.{Written}
 use Rattle.refusal.specs.declared.Reason.the-variants.{File, Short, Value}
-use Rattle.refusal.specs.Table.{numberOf}
+use Rattle.refusal.specs.Writing.{Outcome, turned, written, Leaves}
 use Rattle.limits.specs.Answers.{bits}
 use Rattle.slip.specs.Slip.{keptRows, slip}
-use Rattle.slip.specs.declared.Slip.{Slip}
-use Rattle.slip.specs.declared.Slip.the-variants.{Written, Refused}
 
 abbrev pub width : ℕ
 width = 33
@@ -40,16 +33,6 @@ needed l sel = width * (keptRows (l .rows) sel + 1)
 
 abbrev pub lacks : Layout → List ℕ → List ℕ → Bool
 lacks l sel out = pick (ltb (length sel) (l .rows)) true (ltb (length out) (needed l sel))
-
-pub record Outcome : Type 0 where
-  pub answer : Slip
-  pub cells : List ℕ
-
-abbrev pub turned : Reason → List ℕ → Outcome
-turned why out = record { answer = Refused why; cells = out }
-
-abbrev pub written : List ℕ → List ℕ → Outcome
-written text out = record { answer = Written (length text); cells = text ++ drop (length text) out }
 
 unfoldable pub outcomeOn : List ℕ → Layout → List ℕ → List ℕ → Outcome
 outcomeOn s l sel out =
@@ -64,23 +47,12 @@ outcomeBy s sel out (reading-is.Accepted l) = outcomeOn s l sel out
 unfoldable pub outcome : List ℕ → List ℕ → List ℕ → Outcome
 outcome s sel out = outcomeBy s sel out (reading s)
 
-pub record Told : Type 0 where
-  pub number : ℕ
-  pub length : ℕ
-
-abbrev pub toldBy : Slip → Told
-toldBy (Written n) = record { number = 0; length = n }
-toldBy (Refused why) = record { number = numberOf why; length = 0 }
-
 pub record Covers (s : List ℕ) (l : Layout) (sel : List ℕ) : Type 0 where
   pub sound : Sound s l
   pub long : l .rows ≤ length sel
 
-pub record WritesOn (s : List ℕ) (l : Layout) (sel out out′ : List ℕ) (r : Slip) : Type 0 where
-  pub answer : r ≡ outcomeOn s l sel out .answer
-  pub cells : out′ ≡ outcomeOn s l sel out .cells
+abbrev pub WritesOn : List ℕ → Layout → List ℕ → List ℕ → List ℕ → Written → Type 0
+WritesOn s l sel out out′ r = Leaves (outcomeOn s l sel out) out′ r
 
-pub record Slips (s sel out out′ : List ℕ) (r : Slip) : Type 0 where
-  pub answer : r ≡ outcome s sel out .answer
-  pub cells : out′ ≡ outcome s sel out .cells
-  pub told : toldBy r ≡ toldBy (outcome s sel out .answer)
+abbrev pub Slips : List ℕ → List ℕ → List ℕ → List ℕ → Written → Type 0
+Slips s sel out out′ r = Leaves (outcome s sel out) out′ r

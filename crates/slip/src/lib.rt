@@ -18,6 +18,7 @@ use claimfile::claim_of;
 use claimfile::read;
 use limits::all_bits;
 use refusal::Reason;
+use refusal::Written;
 use text::put;
 use text::put_either;
 use text::put_right;
@@ -25,12 +26,6 @@ use text::put_spread;
 
 // The bytes of a line, with its line feed.
 const WIDTH: usize = 33;
-
-// How many bytes were written, or why nothing was.
-pub enum Slip {
-    Written(usize),
-    Refused(Reason),
-}
 
 // 1 where a test holds, else 0.
 fn one(when: bool) -> usize
@@ -143,32 +138,32 @@ fn put_slip(file: &[u8], layout: Layout, kept: usize, selection: &[u8], out: &mu
 }
 
 // Writes the slip of an accepted file: 8 where the selection or the buffer is too short, 9 where a byte of the selection is over 1.
-pub fn slip_on(file: &[u8], layout: Layout, selection: &[u8], out: &mut [u8]) -> Slip
+pub fn slip_on(file: &[u8], layout: Layout, selection: &[u8], out: &mut [u8]) -> Written
     requires { ⌜ Sound (now file) layout ⌝ }
     ensures { λ r. ⌜ WritesOn (now (file .entry)) layout (now (selection .entry)) (now (out .entry)) (now (out .exit)) r ⌝ }
 {
     let rows = layout.rows;
     if selection.len() < rows {
-        return Slip::Refused(Reason::Short);
+        return Written::Refused(Reason::Short);
     }
     let kept = kept_rows(rows, selection);
     if out.len() < WIDTH * (kept + 1) {
-        return Slip::Refused(Reason::Short);
+        return Written::Refused(Reason::Short);
     }
     if !all_bits(selection, rows) {
-        return Slip::Refused(Reason::Value);
+        return Written::Refused(Reason::Value);
     }
-    Slip::Written(put_slip(file, layout, kept, selection, out))
+    Written::Bytes(put_slip(file, layout, kept, selection, out))
 }
 
 // Writes the slip of a file with a selection whose ones are the kept rows. The selection has N bytes or more, where N is the number of
 // claims, and the buffer 33 × (kept + 1) or more, where kept is how many of the N bytes are 1.
-pub fn write_slip(file: &[u8], selection: &[u8], out: &mut [u8]) -> Slip
+pub fn write_slip(file: &[u8], selection: &[u8], out: &mut [u8]) -> Written
     ensures { λ r. ⌜ Slips (now (file .entry)) (now (selection .entry)) (now (out .entry)) (now (out .exit)) r ⌝ }
 {
     let reading = read(file);
     match reading {
-        Reading::Refused(why) => Slip::Refused(Reason::File(why)),
+        Reading::Refused(why) => Written::Refused(Reason::File(why)),
         Reading::Accepted(layout) => slip_on(file, layout, selection, out),
     }
 }

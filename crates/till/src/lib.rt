@@ -3,12 +3,12 @@
 // A slice is passed as a pointer and a length. Each call on a file answers a struct of numbers by value. Only settle, the slip and the
 // canonical form change lent memory.
 ghost use mathlib.Core.Path.{_≡_};
-ghost use Rattle.till.specs.CanonicalNumbers.{WriteCanonicalIs};
+ghost use Rattle.slip.specs.Write as slip-write;
+ghost use Rattle.canonical.specs.Write as canonical-write;
 ghost use Rattle.till.specs.Numbers.{FitsAndRankIs, SparePlacesIs};
 ghost use Rattle.till.specs.SettleNumbers.{SettleIs};
-ghost use Rattle.till.specs.SlipNumbers.{WriteSlipIs};
+ghost use Rattle.till.specs.WriteNumbers.{writtenNumbers, WriteIs};
 ghost use Rattle.till.specs.Version.{version};
-use canonical::Canonical;
 use canonical::write_canonical;
 use closing::Settled;
 use closing::settle;
@@ -16,8 +16,8 @@ use limits::Ranked;
 use limits::Spare;
 use limits::fits_and_rank;
 use limits::spare_places;
+use refusal::Written;
 use refusal::number;
-use slip::Slip;
 use slip::write_slip;
 
 // Which library this is. It rises by one with each change of a call, a needed length or an answer.
@@ -50,14 +50,7 @@ pub struct SettleAnswer {
 
 // The refusal's number and 0 where the call is turned away; else 0, and how many bytes were written.
 #[repr(C)]
-pub struct WriteSlipAnswer {
-    pub refusal: u32,
-    pub length: u64,
-}
-
-// The refusal's number and 0 where the call is turned away; else 0, and how many bytes were written.
-#[repr(C)]
-pub struct WriteCanonicalAnswer {
+pub struct WriteAnswer {
     pub refusal: u32,
     pub length: u64,
 }
@@ -127,44 +120,36 @@ pub extern "C" fn claims_settle(
     }
 }
 
-// Writes the slip of the rows that a selection keeps.
-#[no_mangle]
-pub extern "C" fn claims_write_slip(
-    file: &[u8],
-    selection: &[u8],
-    slip: &mut [u8],
-) -> WriteSlipAnswer
-    ensures { λ r. ⌜ WriteSlipIs (now (file .entry)) (now (selection .entry)) (now (slip .entry)) (now (slip .exit)) r ⌝ }
+// The numbers for an answer of a call that writes.
+fn numbers_of(written: Written) -> WriteAnswer
+    ensures { λ r. ⌜ r ≡ writtenNumbers written ⌝ }
 {
-    let written = write_slip(file, selection, slip);
     match written {
-        Slip::Written(length) => WriteSlipAnswer {
+        Written::Bytes(length) => WriteAnswer {
             refusal: 0,
             length: length as u64,
         },
-        Slip::Refused(why) => WriteSlipAnswer {
+        Written::Refused(why) => WriteAnswer {
             refusal: number(why),
             length: 0,
         },
     }
 }
 
+// Writes the slip of the rows that a selection keeps.
+#[no_mangle]
+pub extern "C" fn claims_write_slip(file: &[u8], selection: &[u8], slip: &mut [u8]) -> WriteAnswer
+    ensures { λ r. ⌜ WriteIs (slip-write.outcome (now (file .entry)) (now (selection .entry)) (now (slip .entry))) (now (slip .exit)) r ⌝ }
+{
+    numbers_of(write_slip(file, selection, slip))
+}
+
 // Writes the canonical form of a file.
 #[no_mangle]
-pub extern "C" fn claims_write_canonical(file: &[u8], canonical: &mut [u8]) -> WriteCanonicalAnswer
-    ensures { λ r. ⌜ WriteCanonicalIs (now (file .entry)) (now (canonical .entry)) (now (canonical .exit)) r ⌝ }
+pub extern "C" fn claims_write_canonical(file: &[u8], canonical: &mut [u8]) -> WriteAnswer
+    ensures { λ r. ⌜ WriteIs (canonical-write.outcome (now (file .entry)) (now (canonical .entry))) (now (canonical .exit)) r ⌝ }
 {
-    let written = write_canonical(file, canonical);
-    match written {
-        Canonical::Written(length) => WriteCanonicalAnswer {
-            refusal: 0,
-            length: length as u64,
-        },
-        Canonical::Refused(why) => WriteCanonicalAnswer {
-            refusal: number(why),
-            length: 0,
-        },
-    }
+    numbers_of(write_canonical(file, canonical))
 }
 
 // The version, for a box to be asked.
