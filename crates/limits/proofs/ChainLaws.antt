@@ -8,7 +8,6 @@
 --   climbed-chain              the walk from the group where a row hangs lists the groups that it counts in
 use mathlib.Core.Path.{_≡_, sym, _∙_, ap, subst}
 use mathlib.Core.List.{List}
-use mathlib.Core.Bool.{Bool, true, false, false≢true, true≢false}
 use mathlib.Core.Logic.{inl, inr, _≢_}
 use Prim.Native.Nat.{ℕ, _+_, _≤_, _<_}
 use native.Mathlib.Decide.{ℕ-discrete, decLt}
@@ -16,7 +15,7 @@ use native.Mathlib.Nat.{le-refl}
 use native.Mathlib.Omega.{arith}
 use lib.ListN.{length, set}
 use lib.Seq.{getD-set-same, getD-set-other}
-use borrow.Author.Tests.{lt-ltb, le-ltb, lt-leb, le-leb}
+use borrow.Author.Tests.{lt-ltb, le-ltb}
 use Rattle.theory.specs.Bounds.{maxGroups}
 use Rattle.theory.specs.Sum.{same}
 use Rattle.theory.specs.Forest.{Down}
@@ -26,9 +25,7 @@ use Rattle.theory.proofs.SumLaws.{same-self, same-ne}
 use Rattle.theory.proofs.ForestLaws.{chain-out, chain-in, chain-above}
 use Rattle.theory.proofs.LandLaws.{rooted-down}
 use Rattle.claimfile.specs.Day.{countOf, groupOf}
-use Rattle.claimfile.specs.Sound.{Sound}
 use Rattle.claimfile.specs.declared.Layout.{Layout}
-use Rattle.claimfile.proofs.DayLaws.{side-most}
 use Rattle.limits.specs.Side.{parentBy, parentIn, upIn, hangs}
 use Rattle.limits.specs.Chain.{Ups, Lists, Climbed, Chained}
 

@@ -5,7 +5,8 @@
 --   sides-start sides-end  before the first side and after the last
 --   Groups                 the same of the groups of a list, on a side
 --   groups-start groups-step   at the start of the list, and at the next group
---   chain-inside chain-fits chain-step chain-end   the same of the row's chain, by the counts of a side; with all its groups the side is done
+--   chain-inside chain-fits chain-step chain-end   the same of the row's chain, by the counts of a side; with all its groups the
+--                          side is done
 --   unfit-side full-group  where it is left early
 --   told-spares            what the number means
 --   spare-value spare-selected spare-row   the answer for an accepted file, one law a case
@@ -13,7 +14,7 @@
 --   spared-most            it has at most 65535 places
 use mathlib.Core.Path.{_≡_, refl, sym, ap, _∙_, subst}
 use mathlib.Core.List.{List}
-use mathlib.Core.Bool.{true, false}
+use mathlib.Core.Bool.{true}
 use mathlib.Core.Logic.{inl, inr, _≢_}
 use Prim.Native.Nat.{ℕ, zero, suc, _+_, _-_, min, _≤_, _<_, zero-le}
 use native.Mathlib.Nat.{le-refl}
@@ -30,11 +31,9 @@ use Rattle.theory.specs.Formed.{Formed}
 use Rattle.theory.specs.Spare.{sparePlaces, HasPlaces}
 use Rattle.theory.proofs.TestLaws.{either, both-true}
 use Rattle.theory.proofs.SpareLaws.{spare-none, spare-unfit, spare-most, spare-places, spare-greatest, spares}
-use Rattle.claimfile.specs.File.{reading}
 use Rattle.claimfile.specs.Day.{countOf, groupOf, groupsOf, firstOf, limitOf, networkOf, instanceOf}
 use Rattle.claimfile.specs.declared.Layout.{Layout}
 use Rattle.claimfile.specs.declared.Group.{Group}
-use Rattle.claimfile.specs.declared.Reading.the-variants as reading-is
 use Rattle.claimfile.proofs.DayLaws.{each-node, limit-on, limit-small, sound-formed}
 use Rattle.refusal.specs.declared.Reason.{Reason}
 use Rattle.refusal.specs.declared.Reason.the-variants.{Value, Selected}

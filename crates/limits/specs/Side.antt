@@ -19,7 +19,7 @@
 --                          the rows that count in it
 --   Rose s l side k next f     the same for whatever rows were counted
 --   Placed s sel l side next f     the same for the selected rows
-use Prim.Native.Nat.{ℕ, zero, suc, _+_, _*_, min, _≤_, _<_}
+use Prim.Native.Nat.{ℕ, zero, suc, _+_, _*_, min, _<_}
 use mathlib.Core.Path.{_≡_}
 use mathlib.Core.List.{List}
 use mathlib.Core.Bool.{Bool, true, false}

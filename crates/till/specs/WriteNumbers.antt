@@ -1,6 +1,7 @@
 -- What the exported calls answer that write into a lent buffer: document 01's number and the length for each case of an answer.
 --   writtenNumbers a       the numbers for an answer
---   WriteIs o out′ r       r is an answer in numbers, and `Leaves` says that this answer, and the cells out′ of the buffer, are the outcome o
+--   WriteIs o out′ r       r is an answer in numbers, and `Leaves` says that this answer and the cells out′ of the buffer are the
+--                          outcome o
 use mathlib.Core.Path.{_≡_}
 use mathlib.Core.List.{List}
 use Prim.Native.Nat.{ℕ}

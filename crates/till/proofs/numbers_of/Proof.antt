@@ -2,7 +2,6 @@
 use mathlib.Core.Path.{sym, ap, _∙_}
 use Prim.Native.Nat.{ℕ}
 use borrow.Author.Needs.{needs}
-use Rattle.till.specs.declared.WriteAnswer.{WriteAnswer}
 use Rattle.till.specs.WriteNumbers.{writtenNumbers}
 use Rattle.till.proofs.numbers_of.Statement.{statement}
 use Rattle.till.proofs.numbers_of.Tie as tie
