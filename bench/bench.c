@@ -122,7 +122,7 @@ static void judge_plain(const void *with) {
 }
 static void read_plain(const void *with) {
     const struct file *d = with;
-    sink += read_day(d->bytes, d->length, &tables);
+    sink += read_day(d->bytes, d->length, NEW, &tables);
 }
 static void rank_ours(const void *with) {
     const struct file *d = with;

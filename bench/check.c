@@ -17,11 +17,14 @@ static int same(const struct outcome *a, const struct outcome *b, unsigned rows,
     return !with_choice || memcmp(a->choice, b->choice, rows) == 0;
 }
 
-/* Each contestant settles a day as ours does. */
+/* Each contestant settles a day as ours does, and so does our call for stored files, since the day is a new file. */
 static void check_settled(const struct file *day, unsigned family, unsigned rows, unsigned number) {
     static struct outcome ours, theirs;
     ours_settle(day->bytes, day->length, &ours);
     check(ours.refusal == 0, "refused", "ours", family, rows, number);
+    memset(&theirs, 7, sizeof theirs);
+    ours_settle_stored(day->bytes, day->length, &theirs);
+    check(same(&theirs, &ours, rows, 1), "another answer for a stored file", "ours", family, rows, number);
     for (unsigned who = 1; who < contestant_count; who++) {
         memset(&theirs, 7, sizeof theirs);
         contestants[who].settle(day->bytes, day->length, &theirs);
@@ -35,7 +38,7 @@ static void check_searched(const struct file *day, unsigned family, unsigned row
     static struct outcome ours, best;
     struct day d;
     ours_settle(day->bytes, day->length, &ours);
-    best.refusal = read_day(day->bytes, day->length, &d);
+    best.refusal = read_day(day->bytes, day->length, NEW, &d);
     search_all(&d, 2, best.choice);
     best.earned = count_rows(&d, best.choice, 1);
     best.kept = count_rows(&d, best.choice, 0);
@@ -74,7 +77,7 @@ static void check_damaged(const struct file *day, unsigned family, unsigned rows
         if (k % 4 != 0) hurt.bytes[day->length * k / 400] = values[k % 5];
         if (k == 398) hurt.bytes[hurt.length++] = 0;
         unsigned ours = ours_judge(hurt.bytes, hurt.length);
-        wrong += ours != read_day(hurt.bytes, hurt.length, &d);
+        wrong += ours != read_day(hurt.bytes, hurt.length, NEW, &d);
         wrong += ours != plain_judge(hurt.bytes, hurt.length);
     }
     check(wrong == 0, "another refusal than ours", "plain C", family, rows, number);

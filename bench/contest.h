@@ -1,4 +1,4 @@
-/* The contestants: each settles a claim file's bytes. */
+/* The contestants: each settles the bytes of a new claim file. */
 #ifndef CONTEST_H
 #define CONTEST_H
 

@@ -127,6 +127,7 @@ static void set_limits(struct day *d, unsigned family) {
     if (family == NOTHING) shut_all(d);
 }
 
+/* The limits are lowered last, so that the file is a new one. */
 void make_day(unsigned family, unsigned rows, unsigned number, struct file *file) {
     struct day d = flat_day(rows / 2, 1, rows / 2, 1);
     d.rows = rows;
@@ -140,5 +141,6 @@ void make_day(unsigned family, unsigned rows, unsigned number, struct file *file
         draw_any_rows(&d);
     draw_kinds(&d, family, number);
     set_limits(&d, family);
+    d = lowered(&d);
     write_day(&d, file);
 }

@@ -1,4 +1,4 @@
-/* Families of days, written as claim files from a fixed seed. */
+/* Families of days, written as new claim files from a fixed seed. */
 #ifndef DAYS_H
 #define DAYS_H
 

@@ -1,16 +1,18 @@
-/* The library's calls. No other file here names them. */
+/* The library's calls. No other file here names them, except the table of sorts.h. */
 #include "ours.h"
-#include "claims.h"
 
 static uint32_t sheet[MOST_MARKS], scratch[8 * MOST_MARKS];
 
-void ours_settle(const uint8_t *file, size_t length, struct outcome *out) {
-    struct claims_settle_answer r =
-        claims_settle(file, length, out->choice, MOST_ROWS, sheet, MOST_MARKS, scratch, 8 * MOST_MARKS);
+static void settle_by(const struct sort *by, const uint8_t *file, size_t length, struct outcome *out) {
+    struct claims_settle_answer r = by->settle(file, length, out->choice, MOST_ROWS, sheet, MOST_MARKS, scratch, 8 * MOST_MARKS);
     out->refusal = r.refusal;
     out->earned = (unsigned)r.earned;
     out->kept = (unsigned)r.kept;
 }
+
+void ours_settle(const uint8_t *file, size_t length, struct outcome *out) { settle_by(&sorts[NEW], file, length, out); }
+
+void ours_settle_stored(const uint8_t *file, size_t length, struct outcome *out) { settle_by(&sorts[STORED], file, length, out); }
 
 /* With no memory lent, settle judges the file and then answers that the memory is short; with no group and no row none is needed. */
 unsigned ours_judge(const uint8_t *file, size_t length) {
@@ -25,42 +27,45 @@ struct plain_rank ours_fits_and_rank(const uint8_t *file, size_t length, const u
 
 /* ---- every call ---- */
 
-static void make_settle(const struct file *day, const uint8_t *selection) {
+static void make_settle(const struct sort *by, const struct file *day, const uint8_t *selection) {
     static uint8_t choice[MOST_ROWS];
     (void)selection;
-    claims_settle(day->bytes, day->length, choice, MOST_ROWS, sheet, MOST_MARKS, scratch, 8 * MOST_MARKS);
+    by->settle(day->bytes, day->length, choice, MOST_ROWS, sheet, MOST_MARKS, scratch, 8 * MOST_MARKS);
 }
 
-static void make_fits_and_rank(const struct file *day, const uint8_t *selection) {
-    for (unsigned side = 0; side < 2; side++) claims_fits_and_rank(day->bytes, day->length, selection, MOST_ROWS, side);
+static void make_fits_and_rank(const struct sort *by, const struct file *day, const uint8_t *selection) {
+    for (unsigned side = 0; side < 2; side++) by->fits_and_rank(day->bytes, day->length, selection, MOST_ROWS, side);
 }
 
-static void make_spare_places(const struct file *day, const uint8_t *selection) {
-    for (unsigned row = 0; row < MOST_ROWS; row++) claims_spare_places(day->bytes, day->length, selection, MOST_ROWS, row);
+static void make_spare_places(const struct sort *by, const struct file *day, const uint8_t *selection) {
+    for (unsigned row = 0; row < MOST_ROWS; row++) by->spare_places(day->bytes, day->length, selection, MOST_ROWS, row);
 }
 
-static void make_slip(const struct file *day, const uint8_t *selection) {
+static void make_slip(const struct sort *by, const struct file *day, const uint8_t *selection) {
     static uint8_t slip[CLAIMS_LONGEST_SLIP];
-    claims_write_slip(day->bytes, day->length, selection, MOST_ROWS, slip, CLAIMS_LONGEST_SLIP);
+    by->write_slip(day->bytes, day->length, selection, MOST_ROWS, slip, CLAIMS_LONGEST_SLIP);
 }
 
-static void make_canonical(const struct file *day, const uint8_t *selection) {
+static void make_canonical(const struct sort *by, const struct file *day, const uint8_t *selection) {
     static uint8_t canonical[CLAIMS_LONGEST_CANONICAL];
     (void)selection;
-    claims_write_canonical(day->bytes, day->length, canonical, CLAIMS_LONGEST_CANONICAL);
+    by->write_canonical(day->bytes, day->length, canonical, CLAIMS_LONGEST_CANONICAL);
 }
 
-static void make_version(const struct file *day, const uint8_t *selection) {
-    (void)day, (void)selection;
+static void make_version(const struct sort *by, const struct file *day, const uint8_t *selection) {
+    (void)by, (void)day, (void)selection;
     claims_version();
 }
 
+/* The lines of a call on a file, one for each sort. */
+#define EACH_SORT(name, make) {name, make, &sorts[NEW]}, {name "_stored", make, &sorts[STORED]}
+
 const struct call calls[] = {
-    {"claims_settle", make_settle},
-    {"claims_fits_and_rank", make_fits_and_rank},
-    {"claims_spare_places", make_spare_places},
-    {"claims_write_slip", make_slip},
-    {"claims_write_canonical", make_canonical},
-    {"claims_version", make_version},
+    EACH_SORT("claims_settle", make_settle),
+    EACH_SORT("claims_fits_and_rank", make_fits_and_rank),
+    EACH_SORT("claims_spare_places", make_spare_places),
+    EACH_SORT("claims_write_slip", make_slip),
+    EACH_SORT("claims_write_canonical", make_canonical),
+    {"claims_version", make_version, NULL},
 };
 const unsigned call_count = sizeof calls / sizeof *calls;

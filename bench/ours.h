@@ -4,8 +4,12 @@
 
 #include "contest.h"
 #include "plain.h"
+#include "sorts.h"
 
 void ours_settle(const uint8_t *file, size_t length, struct outcome *out);
+
+/* The same for a stored file. */
+void ours_settle_stored(const uint8_t *file, size_t length, struct outcome *out);
 
 /* The file judged and nothing more: 0, or the number of the first fault. */
 unsigned ours_judge(const uint8_t *file, size_t length);
@@ -13,12 +17,13 @@ unsigned ours_judge(const uint8_t *file, size_t length);
 struct plain_rank ours_fits_and_rank(const uint8_t *file, size_t length, const uint8_t *selection, size_t selected, unsigned side);
 
 /*
- * Every call that the library exports: its name, and a function that makes it on a day with a selection, for each side or each row where
- * the call is told one. The archive's names are compared with this table; a new call is a line in it.
+ * Every call that the library exports: its name, a function that makes it on a day with a selection, for each side or each row where the
+ * call is told one, and the sort of file that it takes. The archive's names are compared with this table; a new call is a line in it.
  */
 struct call {
     const char *name;
-    void (*make)(const struct file *day, const uint8_t *selection);
+    void (*make)(const struct sort *by, const struct file *day, const uint8_t *selection);
+    const struct sort *by;
 };
 extern const struct call calls[];
 extern const unsigned call_count;

@@ -6,11 +6,13 @@ static unsigned judge_groups(const uint8_t *file, size_t length, size_t *at, uns
     if (length - *at < 2) return 1;
     unsigned groups = *count = get16(file + *at);
     if (groups > MOST_GROUPS) return 2;
-    *at += 2;
+    size_t start = *at += 2;
     for (unsigned g = 0; g < groups; g++, *at += 4) {
         if (length - *at < 4) return 1;
         unsigned parent = get16(file + *at);
-        if (parent >= g && parent != TOP) return 3;
+        if (parent == TOP) continue;
+        if (parent >= g) return 3;
+        if (get16(file + *at + 2) > get16(file + start + 4 * parent + 2)) return 11;
     }
     return 0;
 }
@@ -44,7 +46,7 @@ static unsigned judge_selection(const struct day *d, const uint8_t *selection, s
 static struct plain_rank judged_rank(const uint8_t *file, size_t length, const uint8_t *selection, size_t selected, unsigned side,
                                      struct ranked (*way)(const struct day *, unsigned, const uint8_t *)) {
     struct day d;
-    unsigned fault = read_day(file, length, &d);
+    unsigned fault = read_day(file, length, NEW, &d);
     if (!fault) fault = judge_selection(&d, selection, selected, side);
     if (fault) return (struct plain_rank){fault, 0, 0};
     struct ranked r = way(&d, side, selection);

@@ -1,4 +1,4 @@
-/* A claim file judged by plain C, and fits and rank by plain C. The plain reader into tables is read_day of day.h. */
+/* A new claim file judged by plain C, and fits and rank by plain C. The plain reader into tables is read_day of day.h. */
 #ifndef PLAIN_H
 #define PLAIN_H
 
@@ -8,7 +8,7 @@ struct plain_rank {
     unsigned refusal, fits, rank;
 };
 
-/* 0, or document 01's number of the first fault: what read_day answers, without the tables. */
+/* 0, or the number of the first fault: what read_day answers, without the tables. */
 unsigned plain_judge(const uint8_t *file, size_t length);
 
 /* Whether a selection fits a side, and its rank there, by rank_side of day.h. */

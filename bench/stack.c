@@ -17,7 +17,7 @@ static const struct call *made;
 static struct file day;
 static uint8_t selection[MOST_ROWS];
 
-static void make(void) { made->make(&day, selection); }
+static void make(void) { made->make(made->by, &day, selection); }
 
 static void make_on_paint(void) {
     getcontext(&away);
@@ -31,7 +31,7 @@ static void make_on_paint(void) {
 /* With no row selected, with the rows that settle keeps, and with all rows. */
 static void make_on_day(void) {
     static struct outcome kept;
-    ours_settle(day.bytes, day.length, &kept);
+    ours_settle_stored(day.bytes, day.length, &kept);
     memset(selection, 0, sizeof selection);
     make_on_paint();
     memcpy(selection, kept.choice, sizeof selection);
@@ -40,13 +40,22 @@ static void make_on_day(void) {
     make_on_paint();
 }
 
-/* Limits under which every row fits, half of the rows, and none. */
+static void make_on_chain(const struct day *d) {
+    write_day(d, &day);
+    make_on_day();
+}
+
+/*
+ * Limits under which every row fits, half of the rows, and none. Then the same with every limit but the first the largest there is: the
+ * calls for stored files lower them through the whole chain, and those for new files refuse it.
+ */
 static void make_on_chains(void) {
     static const unsigned limits[] = {TOP, MOST_ROWS / 2, 0};
     for (unsigned k = 0; k < sizeof limits / sizeof *limits; k++) {
-        struct day d = chain_day(limits[k]);
-        write_day(&d, &day);
-        make_on_day();
+        struct day d = chain_day(limits[k]), high = chain_day(TOP);
+        for (unsigned side = 0; side < 2; side++) high.limit[side][0] = d.limit[side][0];
+        make_on_chain(&d);
+        make_on_chain(&high);
     }
 }
 
@@ -68,14 +77,15 @@ static unsigned depth_of(const struct call *call, void (*on)(void)) {
     return STACK - untouched;
 }
 
-static void make_nothing(const struct file *file, const uint8_t *selected) {
+static void make_nothing(const struct sort *by, const struct file *file, const uint8_t *selected) {
+    (void)by;
     (void)file;
     (void)selected;
 }
 
 /* What the change of stacks takes by itself is not counted. */
 struct depths stack_of(const struct call *call) {
-    static const struct call nothing = {"nothing", make_nothing};
+    static const struct call nothing = {"nothing", make_nothing, NULL};
     unsigned base = depth_of(&nothing, make_on_paint);
     return (struct depths){depth_of(call, make_on_chains) - base, depth_of(call, make_on_days) - base};
 }

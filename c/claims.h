@@ -1,12 +1,19 @@
 /*
  * A day of bread claims: the calls for the till's own program. c/example.c is a whole program that uses them.
  *
+ * There are two sorts of file, and each call on a file stands here twice, with the same arguments and the same form of answer. The plain
+ * name takes a new file, in which no group's limit may be above its parent's. The same name with _stored at its end takes a stored file,
+ * one taken from the shelf, which was written when any limit was allowed. Its limits are lowered: from the first group to the last, each
+ * limit that is above its parent's is read as its parent's, which is lowered already by then. So a group with limit 40 in a group with
+ * limit 20 is read with limit 20. A new file may be given to either call, and the answer is the same.
+ *
  * Link with libtill.a. It is built for Linux (ELF, System V calling convention) on x86-64, any such processor, and may be linked at any
  * address. Of the C library it needs memset and memcpy at most. It has no variables of its own and uses no heap; docs/PERFORMANCE.md says
  * how much code it has and how much stack it takes.
  *
- * The calls keep no state. Only claims_settle, claims_write_slip and claims_write_canonical change memory that is lent to them, and only
- * where they answer no refusal. Calls may be made from several threads at once, where what they are lent to change is not shared.
+ * The calls keep no state. Only claims_settle, claims_write_slip and claims_write_canonical, and the calls for stored files beside these,
+ * change memory that is lent to them, and only where they answer no refusal. Calls may be made from several threads at once, where what
+ * they are lent to change is not shared.
  *
  * A pointer must not be null, even where the length beside it is 0, and as many elements must stand there as the length says. Buffers
  * that are lent to one call do not overlap.
@@ -25,7 +32,7 @@ extern "C" {
  * The version: which library this header describes. It rises by one with each release that changes a call, a needed length or an answer.
  * claims_version() tells the version of the library that a program is linked with.
  */
-#define CLAIMS_VERSION 4u
+#define CLAIMS_VERSION 5u
 
 /* The most that a file may hold. */
 #define CLAIMS_MOST_GROUPS 256u   /* in one section, card groups or shop groups */
@@ -57,8 +64,9 @@ extern "C" {
 #define CLAIMS_SHOP 1u
 
 /*
- * Why a call is turned away: the numbers of document 01. The file is judged first (1 to 7), then the length of the selection or of the
- * lent buffers (8), then the values (9). A number after 9 is told by the call that stands beside it, and judged last.
+ * Why a call is turned away: the numbers of documents 01 and 02. The file is judged first, from its front, and the first fault met is the
+ * one told (1 to 7, and 11). Of one group record 3 is judged first and then 11; the calls for stored files do not judge 11. Then comes the
+ * length of the selection or of the lent buffers (8), then the values (9), and 10 is judged last.
  */
 #define CLAIMS_CUT_OFF 1u       /* the file ends before or inside a count or record that is due */
 #define CLAIMS_GROUP_COUNT 2u   /* a group count is over 256 */
@@ -69,7 +77,8 @@ extern "C" {
 #define CLAIMS_TRAILING 7u      /* bytes follow the last claim */
 #define CLAIMS_SHORT 8u         /* a lent buffer or selection is shorter than needed */
 #define CLAIMS_VALUE 9u         /* a selection byte is over 1, the side is over 1, or the row is not below the number of claims */
-#define CLAIMS_SELECTED 10u     /* claims_spare_places: the row is already in the selection */
+#define CLAIMS_SELECTED 10u     /* spare places only: the row is already in the selection */
+#define CLAIMS_LIMIT_ABOVE 11u  /* new files only: a group's limit is above its parent's */
 
 /* What claims_fits_and_rank answers. */
 struct claims_fits_and_rank_answer {
@@ -108,7 +117,8 @@ struct claims_write_canonical_answer {
 uint32_t claims_version(void);
 
 /*
- * Whether a selection of a file's rows fits a side, and its rank there.
+ * Whether a selection of a file's rows fits a side, and its rank there. For a stored file both are the same by the limits as they stand in
+ * it and by the lowered ones.
  *
  * file, file_length              the claim file
  * selection, selection_length    one byte a row: 1 where the row is selected, else 0. Bytes past the last row are not read
@@ -118,11 +128,16 @@ struct claims_fits_and_rank_answer claims_fits_and_rank(
     const uint8_t *file, size_t file_length,
     const uint8_t *selection, size_t selection_length,
     uint32_t side);
+struct claims_fits_and_rank_answer claims_fits_and_rank_stored(
+    const uint8_t *file, size_t file_length,
+    const uint8_t *selection, size_t selection_length,
+    uint32_t side);
 
 /*
  * How many further claims like a row would fit beside a selection of a file's rows: the smallest, over all groups that the row counts in
  * on both sides, of the group's limit less the selected rows that count there. It is 0 where the selection itself does not fit both
- * sides. A number of 1 or more says that the selection with the row added fits both sides, and 0 that it does not.
+ * sides. A number of 1 or more says that the selection with the row added fits both sides, and 0 that it does not. For a stored file it is
+ * the same by the limits as they stand in it and by the lowered ones.
  *
  * file, file_length              the claim file
  * selection, selection_length    one byte a row, as above
@@ -132,11 +147,18 @@ struct claims_spare_places_answer claims_spare_places(
     const uint8_t *file, size_t file_length,
     const uint8_t *selection, size_t selection_length,
     uint32_t row);
+struct claims_spare_places_answer claims_spare_places_stored(
+    const uint8_t *file, size_t file_length,
+    const uint8_t *selection, size_t selection_length,
+    uint32_t row);
 
 /*
  * Settles a file: which claims are kept, with the sheet of marks that shows that no choice is better. With N claims and G groups, card
  * and shop groups together, the needed lengths are as said below. Longer buffers are accepted; what lies past the needed length is
  * neither read nor changed. What the buffers hold before does not matter. Where a refusal is answered, no buffer is changed.
+ *
+ * Of a stored file the kept rows are the same by the limits as they stand in it and by the lowered ones. The marks and the total are those
+ * of the lowered limits: whoever adds up the sheet takes each group's lowered limit, since with a higher one the sum may be too great.
  *
  * file, file_length         the claim file
  * choice, choice_length     N bytes at least: afterwards 1 for each kept row and 0 for each other row
@@ -144,6 +166,11 @@ struct claims_spare_places_answer claims_spare_places(
  * scratch, scratch_length   8 * (G + N) numbers at least: afterwards zero
  */
 struct claims_settle_answer claims_settle(
+    const uint8_t *file, size_t file_length,
+    uint8_t *choice, size_t choice_length,
+    uint32_t *sheet, size_t sheet_length,
+    uint32_t *scratch, size_t scratch_length);
+struct claims_settle_answer claims_settle_stored(
     const uint8_t *file, size_t file_length,
     uint8_t *choice, size_t choice_length,
     uint32_t *sheet, size_t sheet_length,
@@ -169,18 +196,26 @@ struct claims_write_slip_answer claims_write_slip(
     const uint8_t *file, size_t file_length,
     const uint8_t *selection, size_t selection_length,
     uint8_t *slip, size_t slip_length);
+struct claims_write_slip_answer claims_write_slip_stored(
+    const uint8_t *file, size_t file_length,
+    const uint8_t *selection, size_t selection_length,
+    uint8_t *slip, size_t slip_length);
 
 /*
  * Writes the canonical form of a file: one file for all that differ only in how their groups are numbered and in groups without claims.
  * Groups with no claim in them or beneath them are dropped. The others are numbered by the lowest row that counts in them, a parent
  * before its child where these are equal. Rows keep their order and kinds. Two files give the same bytes exactly where they are the same
- * day in this sense. The written file is accepted by every call, and settled it keeps the same rows. A longer buffer is accepted; what
- * lies past the written length is neither read nor changed. Where a refusal is answered, no byte is changed.
+ * day in this sense. The written file is accepted by every call, and settled it keeps the same rows. A stored file is compared and written
+ * with its limits lowered, so that what is written is a new file. A longer buffer is accepted; what lies past the written length is
+ * neither read nor changed. Where a refusal is answered, no byte is changed.
  *
  * file, file_length              the claim file
  * canonical, canonical_length    CLAIMS_CANONICAL_LENGTH(file_length) bytes at least, as many as the file has
  */
 struct claims_write_canonical_answer claims_write_canonical(
+    const uint8_t *file, size_t file_length,
+    uint8_t *canonical, size_t canonical_length);
+struct claims_write_canonical_answer claims_write_canonical_stored(
     const uint8_t *file, size_t file_length,
     uint8_t *canonical, size_t canonical_length);
 

@@ -28,7 +28,8 @@ void write_day(const struct day *d, struct file *f) {
 }
 
 /* One group section from *at on. */
-static unsigned read_groups(const uint8_t *file, size_t length, size_t *at, unsigned *count, uint16_t *parent, uint16_t *limit) {
+static unsigned read_groups(const uint8_t *file, size_t length, unsigned sort, size_t *at, unsigned *count, uint16_t *parent,
+                            uint16_t *limit) {
     if (length - *at < 2) return 1;
     unsigned groups = get16(file + *at);
     if (groups > MOST_GROUPS) return 2;
@@ -37,7 +38,9 @@ static unsigned read_groups(const uint8_t *file, size_t length, size_t *at, unsi
         if (length - *at < 4) return 1;
         parent[g] = (uint16_t)get16(file + *at);
         limit[g] = (uint16_t)get16(file + *at + 2);
-        if (parent[g] >= g && parent[g] != TOP) return 3;
+        if (parent[g] == TOP) continue;
+        if (parent[g] >= g) return 3;
+        if (sort == NEW && limit[g] > limit[parent[g]]) return 11;
     }
     *count = groups;
     return 0;
@@ -60,13 +63,34 @@ static unsigned read_rows(const uint8_t *file, size_t length, size_t *at, struct
     return 0;
 }
 
-unsigned read_day(const uint8_t *file, size_t length, struct day *d) {
+unsigned read_day(const uint8_t *file, size_t length, unsigned sort, struct day *d) {
     size_t at = 0;
     unsigned fault = 0;
     for (int side = 0; side < 2 && !fault; side++)
-        fault = read_groups(file, length, &at, &d->groups[side], d->parent[side], d->limit[side]);
+        fault = read_groups(file, length, sort, &at, &d->groups[side], d->parent[side], d->limit[side]);
     if (!fault) fault = read_rows(file, length, &at, d);
     return fault ? fault : at < length ? 7 : 0;
+}
+
+/* Whether the limit of a group is above its parent's. */
+static int is_above(const struct day *d, unsigned side, unsigned g) {
+    unsigned parent = d->parent[side][g];
+    return parent != TOP && d->limit[side][g] > d->limit[side][parent];
+}
+
+int is_new(const struct day *d) {
+    for (unsigned side = 0; side < 2; side++)
+        for (unsigned g = 0; g < d->groups[side]; g++)
+            if (is_above(d, side, g)) return 0;
+    return 1;
+}
+
+struct day lowered(const struct day *d) {
+    struct day low = *d;
+    for (unsigned side = 0; side < 2; side++)
+        for (unsigned g = 0; g < d->groups[side]; g++)
+            if (is_above(&low, side, g)) low.limit[side][g] = low.limit[side][d->parent[side][g]];
+    return low;
 }
 
 /* ---- Days, made and drawn ---- */

@@ -62,8 +62,20 @@ uint8_t *put16(uint8_t *at, unsigned x);
 /* Writes the claim file of a day. */
 void write_day(const struct day *d, struct file *f);
 
-/* Reads a claim file: 0 and the day, or document 01's number of the first fault. */
-unsigned read_day(const uint8_t *file, size_t length, struct day *d);
+/*
+ * The two sorts of file. In a new one no group's limit is above its parent's. In a stored one any limit may stand, and each that is above
+ * its parent's counts as that one.
+ */
+enum { NEW, STORED };
+
+/* Reads a claim file of a sort: 0 and the day, with the limits as they stand there, or the number of the first fault. */
+unsigned read_day(const uint8_t *file, size_t length, unsigned sort, struct day *d);
+
+/* Whether no group's limit is above its parent's, so that a new file may hold the day. */
+int is_new(const struct day *d);
+
+/* The day with its limits lowered: from the first group to the last, each that is above its parent's becomes that one. */
+struct day lowered(const struct day *d);
 
 /* ---- Days, made and drawn ---- */
 
@@ -94,14 +106,14 @@ void hang_forest(struct day *d, unsigned side, unsigned chained, unsigned tops);
 
 /*
  * A side of `count` groups: a forest, one in three with long chains, and limits from 1 to `most`. Now and then a limit is the largest
- * there is, or 0.
+ * there is, or 0. It may be above that of the group's parent.
  */
 void draw_side(struct day *d, unsigned side, unsigned count, unsigned most);
 
 /* `count` rows more, of so many kinds; each names any two groups. */
 void draw_rows(struct day *d, unsigned count, unsigned kinds);
 
-/* A day of at most so many groups a side, and at least one, and at most so many rows of the two kinds. */
+/* A day of at most so many groups a side, and at least one, and at most so many rows of the two kinds. Only some are new as drawn. */
 struct day random_day(unsigned groups, unsigned rows);
 
 /* ---- Plain answers. A selection, or a choice, has one byte a row: 1 where the row is selected, else 0. ---- */

@@ -1,5 +1,5 @@
 /*
- * A small till: it settles one claim file and prints which rows are kept.
+ * A small till: it settles one claim file, a new one, and prints which rows are kept.
  *
  *     gcc -O2 -Ic c/example.c target/staticlib/libtill.a -o example
  *     ./example samples/day_a.claims          or          ./example < samples/day_a.claims
@@ -35,6 +35,7 @@ static const char *const meaning[] = {
     [CLAIMS_SHORT] = "a lent buffer or selection is shorter than needed",
     [CLAIMS_VALUE] = "a selection byte is over 1, a side is over 1, or a row is not below N",
     [CLAIMS_SELECTED] = "the row is already in the selection",
+    [CLAIMS_LIMIT_ABOVE] = "a group's limit is above its parent's",
 };
 
 int main(int count, char **words) {

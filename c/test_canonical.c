@@ -1,15 +1,17 @@
 /*
- * Tests of claims_write_canonical: a sample and worked files; random days against a form that qsort makes from the day's tables; the same day in other
- * group numbers and with groups that no claim needs; days that differ in one field. The written file settled gives the same choice.
- * Buffers are exact, one short and longer, and hold other bytes before each call.
+ * Tests of the canonical form, for each sort of file: a sample and worked files; random days against a form that qsort makes from the
+ * lowered day's tables; the same day in other group numbers and with groups that no claim needs; days that differ in one field. The written
+ * file is a new one, and settled it gives the same choice. Buffers are exact, one short and longer, and hold other bytes before each call.
  */
 #include <stdio.h>
 #include <stdlib.h>
 #include <string.h>
-#include "claims.h"
-#include "day.h"
+#include "sorts.h"
 
 enum { PAST = 5, CELLS = MOST_FILE + PAST };
+
+/* The sort whose turn it is. */
+static const struct sort *by;
 
 static uint8_t out[CELLS];
 
@@ -20,7 +22,7 @@ static uint8_t filler(size_t i) { return (uint8_t)((i + turn) * 2654435761u >> 1
 static struct claims_write_canonical_answer write_in(const struct file *f, size_t cells) {
     turn++;
     for (size_t i = 0; i < CELLS; i++) out[i] = filler(i);
-    return claims_write_canonical(f->bytes, f->length, out, cells);
+    return by->write_canonical(f->bytes, f->length, out, cells);
 }
 
 /* Whether the cells from a place on hold what they held before. */
@@ -75,10 +77,11 @@ static void sort_side(const struct day *d, unsigned side, struct day *form) {
     for (unsigned c = 0; c < d->rows; c++) form->group[side][c] = (uint16_t)number[d->group[side][c]];
 }
 
-static struct day sorted(const struct day *d) {
-    struct day form = *d;
-    for (unsigned side = 0; side < 2; side++) sort_side(d, side, &form);
-    return form;
+/* The canonical file of a day, with its limits lowered. */
+static void make_form(const struct day *d, struct file *f) {
+    struct day low = lowered(d), form = low;
+    for (unsigned side = 0; side < 2; side++) sort_side(&low, side, &form);
+    write_day(&form, f);
 }
 
 /* ---- The same day in other numbers ---- */
@@ -113,60 +116,80 @@ static void shuffle_side(const struct day *d, unsigned side, unsigned more, stru
 static struct day shuffled(const struct day *d, unsigned more) {
     struct day other = *d;
     for (unsigned side = 0; side < 2; side++) shuffle_side(d, side, more, &other);
-    return other;
+    return day_for(by, other);
 }
 
 /* ---- Days ---- */
 
-/* The file and its form settled: the same counts and the same choice. */
+/* A file settled by the calls of a sort, which leaves the choice there. */
+static struct claims_settle_answer settled(const struct sort *sort, const struct file *f, uint8_t *choice) {
+    static uint32_t sheet[CLAIMS_LONGEST_SHEET], scratch[CLAIMS_LONGEST_SCRATCH];
+    memset(choice, 0, MOST_ROWS);
+    return sort->settle(f->bytes, f->length, choice, MOST_ROWS, sheet, CLAIMS_LONGEST_SHEET, scratch, CLAIMS_LONGEST_SCRATCH);
+}
+
+/* The file settled, and its form as a new file: the same counts and the same choice. */
 static void settled_alike(const struct file *f, const struct file *form) {
     static uint8_t choice[2][MOST_ROWS];
-    static uint32_t sheet[CLAIMS_LONGEST_SHEET], scratch[CLAIMS_LONGEST_SCRATCH];
-    const struct file *files[] = {f, form};
-    struct claims_settle_answer told[2];
-    memset(choice, 0, sizeof choice);
-    for (int i = 0; i < 2; i++)
-        told[i] = claims_settle(files[i]->bytes, files[i]->length, choice[i], MOST_ROWS, sheet, CLAIMS_LONGEST_SHEET, scratch,
-                                CLAIMS_LONGEST_SCRATCH);
-    expect(told[0].refusal == 0 && told[1].refusal == 0, "both are settled");
-    expect(told[0].earned == told[1].earned && told[0].kept == told[1].kept, "the same counts");
+    struct claims_settle_answer one = settled(by, f, choice[0]), other = settled(&sorts[NEW], form, choice[1]);
+    expect(one.refusal == 0 && other.refusal == 0, "both are settled");
+    expect(one.earned == other.earned && one.kept == other.kept && one.total == other.total, "the same counts");
     expect(memcmp(choice[0], choice[1], MOST_ROWS) == 0, "the same choice");
 }
 
-/* One field of a group that a row names, or of a row, changed: other bytes. */
+static int same_file(const struct file *a, const struct file *b) {
+    return a->length == b->length && memcmp(a->bytes, b->bytes, a->length) == 0;
+}
+
+/* What is changed of a day: the limit or the parent of a group that a row names, a row's kind, or the group that a row names. */
+enum { LIMIT, KIND, PARENT, NAMED, CHANGES };
+
+/* A day with one such change, at any row and side. Where there is no other group to take, it is the day itself. */
+static struct day with_change(const struct day *d, unsigned what) {
+    struct day e = *d;
+    unsigned c = below(d->rows), side = below(2), g = d->group[side][c];
+    switch (what) {
+    case LIMIT: e.limit[side][g] ^= 1; break;
+    case KIND: e.kind[c] ^= 1; break;
+    case PARENT: e.parent[side][g] = (uint16_t)(d->parent[side][g] != TOP ? TOP : g == 0 ? TOP : g - 1); break;
+    default: e.group[side][c] = (uint16_t)below(d->groups[side]);
+    }
+    return e;
+}
+
+/*
+ * Days with one field changed. Where a limit is above its parent's now, a new file is refused. Else the form is that of the changed day,
+ * and the bytes are others, except where the lowered day is what it was. A row that names another group may still give the same form.
+ */
 static void changed(const struct day *d, const struct file *form) {
-    static struct file f;
-    for (unsigned what = 0; what < 4; what++) {
-        struct day e = *d;
-        unsigned c = below(d->rows), side = below(2), g = d->group[side][c], other = below(d->groups[side]);
-        switch (what) {
-        case 0: e.limit[side][g] ^= 1; break;
-        case 1: e.kind[c] ^= 1; break;
-        case 2: e.parent[side][g] = (uint16_t)(d->parent[side][g] != TOP ? TOP : g == 0 ? TOP : g - 1); break;
-        default: e.group[side][c] = (uint16_t)other;
-        }
-        if (what == 2 && e.parent[side][g] == d->parent[side][g]) continue;
-        struct day a = sorted(d), b = sorted(&e);
-        if (what == 3 && (other == g || memcmp(&a, &b, sizeof a) == 0)) continue;
+    static struct file f, other;
+    for (unsigned what = 0; what < CHANGES; what++) {
+        struct day e = with_change(d, what), low = lowered(d), low_e = lowered(&e);
         write_day(&e, &f);
-        struct claims_write_canonical_answer r = write_in(&f, f.length);
-        expect(r.refusal == 0 && (r.length != form->length || memcmp(out, form->bytes, form->length) != 0), "change %u: the same bytes",
-               what);
+        if (by->stored == NEW && !is_new(&e)) {
+            turned_away("a change that puts a limit above its parent's", &f, f.length, CLAIMS_LIMIT_ABOVE);
+            continue;
+        }
+        make_form(&e, &other);
+        written("changed", &f, f.length, &other);
+        if (memcmp(&low, &low_e, sizeof low) == 0)
+            expect(same_file(form, &other), "change %u: nothing is changed, but other bytes", what);
+        else if (what != NAMED)
+            expect(!same_file(form, &other), "change %u: the same bytes", what);
     }
 }
 
 static void one_day(const struct day *d) {
     static struct file f, form;
-    struct day e = sorted(d);
     write_day(d, &f);
-    write_day(&e, &form);
+    make_form(d, &form);
     written("exact", &f, f.length, &form);
     written("longer", &f, f.length + below(PAST), &form);
     turned_away("one short", &f, f.length - 1, CLAIMS_SHORT);
     expect(form.length <= f.length, "no longer than the file");
     written("the form of the form", &form, form.length, &form);
     settled_alike(&f, &form);
-    e = shuffled(d, below(20));
+    struct day e = shuffled(d, below(20));
     write_day(&e, &f);
     written("shuffled", &f, f.length, &form);
     if (d->rows > 0) changed(d, &form);
@@ -174,16 +197,19 @@ static void one_day(const struct day *d) {
 
 static void random_days(const char *name, unsigned days, unsigned groups, unsigned rows) {
     for (unsigned i = 0; i < days; i++) {
-        struct day d = random_day(groups, rows);
+        struct day d = day_for(by, random_day(groups, rows));
         one_day(&d);
     }
     part_done(name);
 }
 
-/* 256 groups in one chain on each side, named from its end, from its middle, and in any order. */
+/* 256 groups in one chain on each side, named from its end, from its middle, and in any order. Lowered, all have the first one's limit. */
 static void chains(void) {
     for (unsigned i = 0; i < 6; i++) {
         struct day d = chain_day(3);
+        for (unsigned side = 0; side < 2; side++)
+            for (unsigned g = 0; g < MOST_GROUPS; g++) d.limit[side][g] = (uint16_t)(3 + g);
+        d = day_for(by, d);
         for (unsigned c = 0; c < d.rows; c++)
             for (unsigned side = 0; side < 2; side++)
                 d.group[side][c] = (uint16_t)(i == 0 ? MOST_GROUPS - 1 : i == 1 ? MOST_GROUPS / 2 : below(MOST_GROUPS));
@@ -200,7 +226,7 @@ static void read_sample(const char *name, struct file *f) {
 }
 
 /*
- * The sample: card groups 0 (limit 9, no claim), 1 (limit 5), 2 (limit 7, in 1) and 3 (limit 2); row 0 names 3, row 1 names 2. In its form
+ * The sample: card groups 0 (limit 9, no claim), 1 (limit 7), 2 (limit 5, in 1) and 3 (limit 2); row 0 names 3, row 1 names 2. In its form
  * card group 3 is 0, and 1 and 2 keep their numbers, since group 0 is dropped.
  */
 static void worked(void) {
@@ -216,35 +242,15 @@ static void worked(void) {
     part_done("worked files");
 }
 
-/* A faulty file is refused by its own number, whatever the buffer. */
-static void broken_files(const char *name, unsigned files) {
-    for (unsigned i = 0; i < files; i++) {
-        struct day d = random_day(4, 6), read;
-        static struct file f;
-        write_day(&d, &f);
-        switch (below(4)) {
-        case 0: f.length = below((unsigned)f.length); break;
-        case 1: f.bytes[f.length++] = (uint8_t)below(UINT8_MAX + 1); break;
-        default: f.bytes[below((unsigned)f.length)] = (uint8_t)below(4);
-        }
-        unsigned number = read_day(f.bytes, f.length, &read);
-        if (number != 0) {
-            turned_away(name, &f, CELLS, number);
-            turned_away(name, &f, 0, number);
-        } else if (f.length > 0) {
-            turned_away(name, &f, 0, CLAIMS_SHORT);
-        }
-    }
-    part_done(name);
-}
-
 int main(void) {
-    start_numbers(20270304);
-    worked();
-    random_days("random tiny days", 3000, 6, 8);
-    random_days("random small days", 600, 20, 30);
-    random_days("random large days", 40, MOST_GROUPS, MOST_ROWS);
-    chains();
-    broken_files("broken files", 2000);
+    for (by = sorts; by < sorts + SORTS; by++) {
+        printf("%s\n", by->name);
+        start_numbers(20270304);
+        worked();
+        random_days("random tiny days", 3000, 6, 8);
+        random_days("random small days", 600, 20, 30);
+        random_days("random large days", 40, MOST_GROUPS, MOST_ROWS);
+        chains();
+    }
     return all_done();
 }

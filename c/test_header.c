@@ -1,6 +1,8 @@
-/* Tests of claims.h itself: the version, and that the needed lengths are those that its macros give. */
-#include "claims.h"
-#include "day.h"
+/* Tests of claims.h itself: the version, and that the needed lengths are those that its macros give, by the calls for each sort of file. */
+#include "sorts.h"
+
+/* The sort whose turn it is. */
+static const struct sort *by;
 
 static struct file file;
 static uint8_t choice[CLAIMS_LONGEST_CHOICE];
@@ -11,7 +13,7 @@ static const uint8_t no_row[CLAIMS_LONGEST_SELECTION];
 /* The refusal of a call on the file, which is that of the day. Settle has buffers so many cells shorter than the macros say. */
 static unsigned settled_with(const struct day *d, size_t choice_less, size_t sheet_less, size_t scratch_less) {
     unsigned groups = d->groups[CARD] + d->groups[SHOP];
-    struct claims_settle_answer r = claims_settle(
+    struct claims_settle_answer r = by->settle(
         file.bytes, file.length,
         choice, CLAIMS_CHOICE_LENGTH(d->rows) - choice_less,
         sheet, CLAIMS_SHEET_LENGTH(groups, d->rows) - sheet_less,
@@ -21,17 +23,17 @@ static unsigned settled_with(const struct day *d, size_t choice_less, size_t she
 
 /* The other calls, with a selection of that length in which no row is selected. */
 static unsigned ranked_with(size_t length) {
-    return claims_fits_and_rank(file.bytes, file.length, no_row, length, CLAIMS_CARD).refusal;
+    return by->fits_and_rank(file.bytes, file.length, no_row, length, CLAIMS_CARD).refusal;
 }
 
-static unsigned spare_with(size_t length) { return claims_spare_places(file.bytes, file.length, no_row, length, 0).refusal; }
+static unsigned spare_with(size_t length) { return by->spare_places(file.bytes, file.length, no_row, length, 0).refusal; }
 
 static unsigned slip_with(size_t length, size_t slip_length) {
-    return claims_write_slip(file.bytes, file.length, no_row, length, slip, slip_length).refusal;
+    return by->write_slip(file.bytes, file.length, no_row, length, slip, slip_length).refusal;
 }
 
 static unsigned canonical_with(size_t length) {
-    return claims_write_canonical(file.bytes, file.length, canonical, length).refusal;
+    return by->write_canonical(file.bytes, file.length, canonical, length).refusal;
 }
 
 /* The lengths suffice, and no call takes a shorter one. */
@@ -60,8 +62,19 @@ static struct day largest_day(void) {
     return d;
 }
 
-int main(void) {
+/* The largest day, and random ones. */
+static void days(void) {
     start_numbers(20270302);
+    struct day d = largest_day();
+    lengths(&d);
+    expect(file.length == CLAIMS_LONGEST_FILE, "the longest file");
+    for (int n = 0; n < 100; n++) {
+        d = day_for(by, random_day(20, 40));
+        lengths(&d);
+    }
+}
+
+int main(void) {
     expect(claims_version() == CLAIMS_VERSION, "the library's version is the header's");
 
     expect(CLAIMS_MOST_GROUPS == MOST_GROUPS && CLAIMS_MOST_CLAIMS == MOST_ROWS, "the most groups and claims");
@@ -72,12 +85,11 @@ int main(void) {
     expect(CLAIMS_LONGEST_SLIP == CLAIMS_SLIP_LENGTH(CLAIMS_MOST_CLAIMS), "the longest slip");
     expect(CLAIMS_LONGEST_CANONICAL == CLAIMS_CANONICAL_LENGTH(CLAIMS_LONGEST_FILE), "the longest canonical form");
 
-    struct day d = largest_day();
-    lengths(&d);
-    expect(file.length == CLAIMS_LONGEST_FILE, "the longest file");
-    for (int n = 0; n < 100; n++) {
-        d = random_day(20, 40);
-        lengths(&d);
+    part_done("the header alone");
+
+    for (by = sorts; by < sorts + SORTS; by++) {
+        days();
+        part_done(by->name);
     }
     return all_done();
 }

@@ -1,12 +1,15 @@
 /*
- * Tests of claims_fits_and_rank and claims_spare_places: the refusals, worked days, and random days against the plain answers of day.h.
- * There a file is read by a plain reader, and the rank is found in three ways: from the last group to the first, as the library does;
- * greedily; and, on small days, by going through all subsets of the selected rows. The spare places are found in two ways: by counting
- * the rows of each group, and by adding rows to the day until one does not fit.
+ * Tests of fits and rank and of spare places, for each sort of file: the refusals, worked days, and random days against the plain answers
+ * of day.h. There the rank is found in three ways: from the last group to the first, as the library does; greedily; and, on small days, by
+ * going through all subsets of the selected rows. The spare places are found in two ways: by counting the rows of each group, and by adding
+ * rows to the day until one does not fit. The answers for a stored day must be those by its limits as they stand and by the lowered ones.
  */
+#include <stdio.h>
 #include <string.h>
-#include "claims.h"
-#include "day.h"
+#include "sorts.h"
+
+/* The sort whose turn it is. */
+static const struct sort *by;
 
 /* A claim file or a selection that is lent to a call: where it stands and how many bytes it has. */
 struct bytes {
@@ -35,7 +38,7 @@ static void equal(const char *what, unsigned is, unsigned must) { expect(is == m
 
 static struct claims_fits_and_rank_answer fits_and_rank(struct bytes file, struct bytes selection, uint32_t side) {
     remember(file, selection);
-    struct claims_fits_and_rank_answer told = claims_fits_and_rank(file.at, file.length, selection.at, selection.length, side);
+    struct claims_fits_and_rank_answer told = by->fits_and_rank(file.at, file.length, selection.at, selection.length, side);
     unchanged(file, selection);
     return told;
 }
@@ -51,7 +54,7 @@ static void ranked(const char *what, struct bytes file, struct bytes selection, 
 
 static void spare(const char *what, struct bytes file, struct bytes selection, uint32_t row, unsigned refusal, unsigned places) {
     remember(file, selection);
-    struct claims_spare_places_answer told = claims_spare_places(file.at, file.length, selection.at, selection.length, row);
+    struct claims_spare_places_answer told = by->spare_places(file.at, file.length, selection.at, selection.length, row);
     unchanged(file, selection);
     equal(what, told.refusal, refusal);
     equal(what, told.places, places);
@@ -63,25 +66,8 @@ static void spare(const char *what, struct bytes file, struct bytes selection, u
 #define DAY_E BYTES("\0\0\0\0\0\0")
 #define NOTHING BYTES("")
 
-/* The file is judged first: each faulty file comes with no selection and with a side and a row that do not exist. */
+/* What is judged after the file, in its order. */
 static void refusals(void) {
-    const struct {
-        struct bytes file;
-        unsigned refusal;
-        const char *what;
-    } faulty[] = {
-        {BYTES("\0"), CLAIMS_CUT_OFF, "cut off"},
-        {BYTES("\1\1"), CLAIMS_GROUP_COUNT, "group count"},
-        {BYTES("\1\0\0\0\5\0"), CLAIMS_PARENT, "parent"},
-        {BYTES("\0\0\0\0\1\2"), CLAIMS_CLAIM_COUNT, "claim count"},
-        {BYTES("\0\0\0\0\1\0\0\0\0\0\0"), CLAIMS_NO_SUCH_GROUP, "no such group"},
-        {BYTES("\1\0\xff\xff\1\0\1\0\xff\xff\1\0\1\0\0\0\0\0\2"), CLAIMS_KIND, "kind"},
-        {BYTES("\0\0\0\0\0\0\0"), CLAIMS_TRAILING, "trailing"},
-    };
-    for (size_t i = 0; i < sizeof faulty / sizeof *faulty; i++) {
-        ranked(faulty[i].what, faulty[i].file, NOTHING, 2, faulty[i].refusal, 0, 0);
-        spare(faulty[i].what, faulty[i].file, NOTHING, 9, faulty[i].refusal, 0);
-    }
     ranked("short, byte over 1, side over 1", DAY_A, BYTES("\1\2"), 2, CLAIMS_SHORT, 0, 0);
     ranked("byte over 1", DAY_A, BYTES("\1\2\0"), CLAIMS_CARD, CLAIMS_VALUE, 0, 0);
     ranked("side over 1", DAY_A, BYTES("\1\1\1"), 2, CLAIMS_VALUE, 0, 0);
@@ -154,13 +140,13 @@ static void told_as(const char *way, struct claims_fits_and_rank_answer told, st
 /* The places left beside a selection that fits, over all groups that a row counts in: by counting the rows of each group. */
 static unsigned places_by_counting(const struct day *d, unsigned row) {
     unsigned least = UINT16_MAX;
-    for (unsigned side = 0; side < 2; side++)
-        for (unsigned g = d->group[side][row]; g != TOP; g = d->parent[side][g]) {
-            unsigned count = 0;
-            for (unsigned c = 0; c < d->rows; c++)
-                for (unsigned h = d->group[side][c]; h != TOP; h = d->parent[side][h]) count += selected[c] && h == g;
-            if (d->limit[side][g] - count < least) least = d->limit[side][g] - count;
-        }
+    for (unsigned side = 0; side < 2; side++) {
+        unsigned count[MOST_GROUPS] = {0};
+        for (unsigned c = 0; c < d->rows; c++)
+            for (unsigned g = d->group[side][c]; g != TOP; g = d->parent[side][g]) count[g] += selected[c];
+        for (unsigned g = d->group[side][row]; g != TOP; g = d->parent[side][g])
+            if (d->limit[side][g] - count[g] < least) least = d->limit[side][g] - count[g];
+    }
     return least;
 }
 
@@ -194,11 +180,8 @@ static void spare_against_plain(const struct day *d, struct bytes file, struct b
     equal("spare places, by adding", places_by_adding(d, row, room), places < room ? places : room);
 }
 
-/* The answers for a day and the selection must be the plain ones. The selection is lent with `extra` bytes more than rows. */
-static void against_plain(const struct day *d, unsigned extra) {
-    static struct file f;
-    write_day(d, &f);
-    struct bytes file = {f.bytes, f.length}, selection = {selected, d->rows + extra};
+/* The answers for a file and the selection must be the plain ones for a day. */
+static void answers_of(const struct day *d, struct bytes file, struct bytes selection, unsigned row) {
     for (unsigned side = 0; side < 2; side++) {
         struct claims_fits_and_rank_answer told = fits_and_rank(file, selection, side);
         equal("fits, by counting", told.fits, (unsigned)fits_side(d, side, selected));
@@ -206,8 +189,22 @@ static void against_plain(const struct day *d, unsigned extra) {
         told_as("greedily", told, rank_greedily(d, side, selected));
         if (d->rows <= SMALL_ROWS) told_as("by search", told, rank_by_search(d, side, selected));
     }
+    if (row < d->rows) spare_against_plain(d, file, selection, row);
+}
+
+/*
+ * The answers for a day's file and the selection must be the plain ones: by the limits as they stand and, where the file is a stored one,
+ * by the lowered ones as well. The selection is lent with `extra` bytes more than rows.
+ */
+static void against_plain(const struct day *d, unsigned extra) {
+    static struct file f;
+    struct day low = lowered(d);
+    unsigned row = d->rows > 0 ? below(d->rows) : 0;
+    write_day(d, &f);
+    struct bytes file = {f.bytes, f.length}, selection = {selected, d->rows + extra};
+    answers_of(d, file, selection, row);
+    if (by->stored) answers_of(&low, file, selection, row);
     spare("a row past the last", file, selection, d->rows, CLAIMS_VALUE, 0);
-    if (d->rows > 0) spare_against_plain(d, file, selection, below(d->rows));
 }
 
 /* Some selections of a day: among them few rows, or many, or all. */
@@ -220,7 +217,7 @@ static void some_selections(const struct day *d, unsigned selections) {
 
 static void random_days(const char *name, unsigned days, unsigned groups, unsigned rows) {
     for (unsigned i = 0; i < days; i++) {
-        struct day d = random_day(groups, rows);
+        struct day d = day_for(by, random_day(groups, rows));
         some_selections(&d, 4);
     }
     part_done(name);
@@ -232,6 +229,7 @@ static void full_days(const char *name, unsigned days) {
         struct day d = {0};
         for (unsigned side = 0; side < 2; side++) draw_side(&d, side, MOST_GROUPS, 1 + below(1u << below(8)));
         draw_rows(&d, MOST_ROWS, 2);
+        d = day_for(by, d);
         some_selections(&d, 4);
     }
     part_done(name);
@@ -240,7 +238,7 @@ static void full_days(const char *name, unsigned days) {
 /* Every selection of a day of few rows. */
 static void all_selections(const char *name, unsigned days) {
     for (unsigned i = 0; i < days; i++) {
-        struct day d = random_day(6, 6);
+        struct day d = day_for(by, random_day(6, 6));
         for (unsigned bits = 0; bits < 1u << d.rows; bits++) {
             for (unsigned c = 0; c < d.rows; c++) selected[c] = bits >> c & 1;
             against_plain(&d, 0);
@@ -252,7 +250,7 @@ static void all_selections(const char *name, unsigned days) {
 /* Selections that fit or nearly fit: rows are added one by one, and seldom one that does not fit. */
 static void grown_selections(const char *name, unsigned days) {
     for (unsigned i = 0; i < days; i++) {
-        struct day d = random_day(12, 24);
+        struct day d = day_for(by, random_day(12, 24));
         draw_selection(d.rows, 0);
         for (unsigned c = 0; c < d.rows; c++) {
             selected[c] = (uint8_t)below(2);
@@ -263,12 +261,16 @@ static void grown_selections(const char *name, unsigned days) {
     part_done(name);
 }
 
-/* One chain of the most groups, all rows at its end, and one group after another the only one with a limit. The first rows are selected. */
+/*
+ * One chain of the most groups, all rows at its end, and one group after another the only one with a limit; lowered, all groups behind it
+ * have that limit too. The first rows are selected.
+ */
 static void deep_chains(void) {
     static const unsigned counts[] = {0, 299, 300, 301, 302, MOST_ROWS};
     for (unsigned g = 0; g < MOST_GROUPS; g += 51) {
         struct day d = chain_day(TOP);
         for (unsigned side = 0; side < 2; side++) d.limit[side][g] = (uint16_t)(300 + side);
+        d = day_for(by, d);
         for (unsigned k = 0; k < sizeof counts / sizeof *counts; k++) {
             for (unsigned c = 0; c < MOST_ROWS; c++) selected[c] = c < counts[k];
             against_plain(&d, 0);
@@ -277,36 +279,20 @@ static void deep_chains(void) {
     part_done("deep chains");
 }
 
-/* A byte of a random file changed, or its end cut off or lengthened, against the plain reader. */
-static void broken_files(const char *name, unsigned files) {
-    for (unsigned i = 0; i < files; i++) {
-        struct day d = random_day(4, 6), read;
-        struct file f;
-        write_day(&d, &f);
-        draw_selection(MOST_ROWS, 0);
-        switch (below(4)) {
-        case 0: f.length = below((unsigned)f.length); break;
-        case 1: f.bytes[f.length++] = (uint8_t)below(UINT8_MAX + 1); break;
-        default: f.bytes[below((unsigned)f.length)] = (uint8_t)below(4);
-        }
-        struct bytes file = {f.bytes, f.length}, selection = {selected, MOST_ROWS};
-        equal(name, fits_and_rank(file, selection, CLAIMS_CARD).refusal, read_day(f.bytes, f.length, &read));
-    }
-    part_done(name);
-}
-
 int main(void) {
-    start_numbers(20270301);
-    refusals();
-    worked_days();
-    lengths();
-    all_selections("all selections of tiny days", 200);
-    random_days("random small days", 2000, 8, SMALL_ROWS);
-    random_days("random days", 350, 40, 120);
-    random_days("random large days", 50, MOST_GROUPS, MOST_ROWS);
-    full_days("full days", 100);
-    grown_selections("grown selections", 300);
-    deep_chains();
-    broken_files("broken files", 1000);
+    for (by = sorts; by < sorts + SORTS; by++) {
+        printf("%s\n", by->name);
+        start_numbers(20270301);
+        refusals();
+        worked_days();
+        lengths();
+        all_selections("all selections of tiny days", 200);
+        random_days("random small days", 2000, 8, SMALL_ROWS);
+        random_days("random days", 350, 40, 120);
+        random_days("random large days", 50, MOST_GROUPS, MOST_ROWS);
+        full_days("full days", 100);
+        grown_selections("grown selections", 300);
+        deep_chains();
+    }
     return all_done();
 }

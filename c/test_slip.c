@@ -1,13 +1,15 @@
 /*
- * Tests of claims_write_slip: the refusals and their order, day A, and random days and selections against a slip that snprintf makes from
- * the day's tables. Buffers are exact, one short and longer, and hold other bytes before each call.
+ * Tests of the slip, for each sort of file: the refusals and their order, day A, and random days and selections against a slip that
+ * snprintf makes from the day's tables. Buffers are exact, one short and longer, and hold other bytes before each call.
  */
 #include <stdio.h>
 #include <string.h>
-#include "claims.h"
-#include "day.h"
+#include "sorts.h"
 
 enum { WIDTH = 33, PAST = 5, SLIP_CELLS = CLAIMS_LONGEST_SLIP + PAST };
+
+/* The sort whose turn it is. */
+static const struct sort *by;
 
 static struct file file;
 static uint8_t selection[MOST_ROWS + PAST], slip[SLIP_CELLS];
@@ -20,7 +22,7 @@ static uint8_t filler(size_t i) { return (uint8_t)((i + turn) * 2654435761u >> 1
 static struct claims_write_slip_answer write_in(size_t selected, size_t cells) {
     turn++;
     for (size_t i = 0; i < SLIP_CELLS; i++) slip[i] = filler(i);
-    return claims_write_slip(file.bytes, file.length, selection, selected, slip, cells);
+    return by->write_slip(file.bytes, file.length, selection, selected, slip, cells);
 }
 
 /* Whether the cells from a place on hold what they held before. */
@@ -107,34 +109,10 @@ static void worked_day(void) {
     part_done("worked day");
 }
 
-/* The file is judged first: each faulty one comes with no selection and no buffer. */
-static void faulty_files(void) {
-    const struct {
-        const char *bytes;
-        size_t length;
-        unsigned refusal;
-    } faulty[] = {
-        {"\0", 1, CLAIMS_CUT_OFF},
-        {"\1\1", 2, CLAIMS_GROUP_COUNT},
-        {"\1\0\0\0\5\0", 6, CLAIMS_PARENT},
-        {"\0\0\0\0\1\2", 6, CLAIMS_CLAIM_COUNT},
-        {"\0\0\0\0\1\0\0\0\0\0\0", 11, CLAIMS_NO_SUCH_GROUP},
-        {"\1\0\xff\xff\1\0\1\0\xff\xff\1\0\1\0\0\0\0\0\2", 19, CLAIMS_KIND},
-        {"\0\0\0\0\0\0\0", 7, CLAIMS_TRAILING},
-    };
-    selection[0] = 2;
-    for (size_t i = 0; i < sizeof faulty / sizeof *faulty; i++) {
-        file.length = faulty[i].length;
-        memcpy(file.bytes, faulty[i].bytes, file.length);
-        turned_away("a faulty file", 0, 0, faulty[i].refusal);
-        turned_away("a faulty file, long buffers", 1, SLIP_CELLS, faulty[i].refusal);
-    }
-    part_done("faulty files");
-}
-
 static void random_days(void) {
-    for (unsigned n = 0; n < 3000; n++) {
-        struct day d = random_day(1 + below(40), below(60));
+    for (unsigned n = 0; n < 2000; n++) {
+        unsigned groups = 1 + below(40), rows = below(60);
+        struct day d = day_for(by, random_day(groups, rows));
         draw_selection(&d, below(9));
         tried(&d);
     }
@@ -155,10 +133,12 @@ static void large_days(void) {
 }
 
 int main(void) {
-    start_numbers(20270303);
-    worked_day();
-    faulty_files();
-    random_days();
-    large_days();
+    for (by = sorts; by < sorts + SORTS; by++) {
+        printf("%s\n", by->name);
+        start_numbers(20270303);
+        worked_day();
+        random_days();
+        large_days();
+    }
     return all_done();
 }

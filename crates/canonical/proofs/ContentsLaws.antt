@@ -1,10 +1,12 @@
 -- Laws of what the canonical file of a sound file holds.
 --   word-of word-fits word-back    the number that stands in a record for a parent may stand there, and reads back
+--   word-below             where it is a smaller group, the limit is not above that group's
 --   newSide s l side       a side in the new numbers
 --   written s l            the bytes of the canonical file
 --   writtenSide s l side   a side of the canonical file, as it is read
 --   records-on             the canonical file has the groups of a side in the new numbers
---   canonical-proper       a file may hold what the canonical file holds
+--   canonical-proper       a new file may hold what the canonical file holds
+--   accepted-new           so it is accepted as a new file
 --   written-alike          its sides are those in the new numbers
 --   written-same           it holds the same day as the file read
 --   claim-alike            claims with the same fields are the same
@@ -12,7 +14,7 @@
 use mathlib.Core.Path.{_≡_, refl, sym, ap, ap₂, _∙_}
 use mathlib.Core.Logic.{_⊎_, inl, inr}
 use mathlib.Core.List.{List}
-use Prim.Native.Nat.{ℕ, zero, suc, _+_, _*_, _≤_, _<_}
+use Prim.Native.Nat.{ℕ, zero, suc, _+_, _≤_, _<_}
 use native.Mathlib.Omega.{arith}
 use lib.Dec.{ltb}
 use borrow.Author.Tests.{lt-ltb, le-ltb}
@@ -21,21 +23,24 @@ use Rattle.theory.specs.Sum.{pick}
 use Rattle.claimfile.specs.declared.Layout.{Layout}
 use Rattle.claimfile.specs.declared.Group.{Group}
 use Rattle.claimfile.specs.declared.Claim.{Claim}
-use Rattle.claimfile.specs.File.{top, groupWidth}
-use Rattle.claimfile.specs.Day.{startOf, countOf, groupOf, claimOf}
+use Rattle.claimfile.specs.declared.Reading.the-variants.{Accepted}
+use Rattle.claimfile.specs.File.{newFile, top, reading}
+use Rattle.claimfile.specs.Day.{countOf, groupOf, claimOf, firstOf}
 use Rattle.claimfile.specs.Sound.{SmallerOrTop, Sound}
 use Rattle.claimfile.specs.Written.{recordsOn, fileBytes, Proper}
 use Rattle.claimfile.proofs.AcceptedLaws.{accepted-sound}
-use Rattle.claimfile.proofs.DayLaws.{side-most}
+use Rattle.claimfile.proofs.DayLaws.{side-most, side-room, limit-small}
 use Rattle.claimfile.proofs.WrittenLaws.{written-accepted, written-group, written-claim, same-contents}
-use Rattle.limits.specs.Side.{parentBy, limitIn}
+use Rattle.limits.specs.Side.{parentBy}
 use Rattle.limits.proofs.ChainLaws.{parent-lower, parent-root}
 use Rattle.canonical.specs.Side.{Side, group, canonicalSide}
 use Rattle.canonical.specs.Canonical.{sideOf, parentWord, recordOf, canonicalContents, canonicalLayout, Bytes, SameDay}
 use Rattle.canonical.proofs.ChainLaws.{SoundSide}
+use Rattle.canonical.proofs.OrderLaws.{used-inside, group-used}
 use Rattle.canonical.proofs.MapLaws.{AlikeSides, alike-renumbered, renumbered-trans}
-use Rattle.canonical.proofs.SideLaws.{few-groups, canonical-side-sound, canonical-side-renumbered, canonical-side-alike}
-use Rattle.canonical.proofs.DayLaws.{side-sound}
+use Rattle.canonical.proofs.SideLaws.{few-groups, Lowered, canonical-side-sound, canonical-side-renumbered}
+use Rattle.canonical.proofs.SideLaws.{canonical-side-lowered, canonical-side-alike}
+use Rattle.canonical.proofs.DayLaws.{side-sound, side-lowered, new-side-limit}
 
 --------------------------------------------------------------------------------
 -- The number for a parent
@@ -66,6 +71,14 @@ module _ {d : Side} (sound : SoundSide d) (g : ℕ) (inside : g < d .groups) whe
       read : {u : ℕ} → parentWord d g ≡ u → parentBy (d .groups) (parentWord d g) g ≡ parentBy (d .groups) u g
       read e = ap (λ (x : ℕ). parentBy (d .groups) x g) e
 
+  word-below :
+      d .groups ≤ maxGroups → Lowered d → parentWord d g < g → d .limit g ≤ d .limit (parentWord d g)
+  word-below most low small =
+      elim word-of [
+        | inl q ↦ omega (arith, low g inside (omega (arith, q .0)), ap (d .limit) (q .1))
+        | inr q ↦ absurd (omega (arith, q .1))
+      ]
+
 --------------------------------------------------------------------------------
 -- What the canonical file holds
 
@@ -95,10 +108,11 @@ module _ {s : List ℕ} {l : Layout} (sound : Sound s l) where
   new-most side = omega (arith, few-groups (sideOf s l side), side-most s l sound side)
 
   module _ (bytes : Bytes s) where
-    limit-most : (side g : ℕ) → limitIn s l side g ≤ maxLimit
-    limit-most side g =
-        let at = startOf l side + groupWidth * g + 2 in
-        omega (arith, bytes at, bytes (at + 1))
+    limit-most : (side i : ℕ) → i < newSide s l side .groups → newSide s l side .limit i ≤ maxLimit
+    limit-most side i h =
+        let g = group (sideOf s l side) i in
+        let inside = used-inside (side-sound sound side) g (group-used (side-sound sound side) i h) in
+        omega (arith, limit-small s l bytes (firstOf l side + g) (omega (arith, side-room l side)))
 
     pub canonical-proper : Proper (canonicalContents s l)
     canonical-proper =
@@ -108,15 +122,20 @@ module _ {s : List ℕ} {l : Layout} (sound : Sound s l) where
           shops-most = new-most 1;
           rows-most = sound .rows-most;
           parents = λ side g h. word-fits (new-sound side) g (omega (arith, records-on s l side));
-          limits = λ side g h. limit-most side (group (sideOf s l side) g);
+          limits = λ side g h. limit-most side g (omega (arith, records-on s l side));
+          below = λ side g h small.
+              word-below (new-sound side) g (omega (arith, records-on s l side)) (new-most side)
+              (canonical-side-lowered (side-sound sound side) (side-lowered s l side)) small;
           claim-cards = new-sound 0 .named;
           claim-shops = new-sound 1 .named;
           claim-kinds = sound .row-kinds;
         }
 
+    accepted-new : reading newFile (written s l) ≡ Accepted (canonicalLayout s l)
+    accepted-new = written-accepted (canonicalContents s l) canonical-proper newFile
+
     written-sound : Sound (written s l) (canonicalLayout s l)
-    written-sound =
-        accepted-sound (written s l) (canonicalLayout s l) (written-accepted (canonicalContents s l) canonical-proper)
+    written-sound = accepted-sound newFile (written s l) (canonicalLayout s l) accepted-new
 
     group-back :
         (side g : ℕ) → g < newSide s l side .groups →
@@ -140,7 +159,10 @@ module _ {s : List ℕ} {l : Layout} (sound : Sound s l) where
               sym (word-back (new-sound side) g h (new-most side))
               ∙ ap₂ (λ (n u : ℕ). parentBy n u g) (sym (count-on s l side))
               (sym (ap (λ (x : Group). x .parent) (group-back side g h)));
-          limit = λ g h. sym (ap (λ (x : Group). x .limit) (group-back side g h));
+          limit = λ g h.
+              sym
+              (new-side-limit (written s l) (canonicalLayout s l) accepted-new side g (omega (arith, count-on s l side))
+              ∙ ap (λ (x : Group). x .limit) (group-back side g h));
           names = named-back side;
         }
 

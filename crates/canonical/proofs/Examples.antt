@@ -4,14 +4,17 @@ use mathlib.Core.List.{map}
 use native.Mathlib.Decide.{ℕ-discrete, decLt}
 use Rattle.theory.specs.Sum.{sum, is, same}
 use Rattle.theory.specs.Forest.{steps, walk, chain}
+use Rattle.theory.specs.Lowered.{lowered}
 use Rattle.claimfile.specs.File.{groupFault, claimFault, recordsFrom, countFault, sectionAt, claimsAt, reading}
+use Rattle.claimfile.specs.Day.{parentOf, writtenOf, limitOf}
 use Rattle.claimfile.specs.Written.{records, section, fileBytes}
 use Rattle.canonical.specs.Side.{first, lowest, used, before, number, group}
 use Rattle.canonical.specs.Canonical.{canonical}
 use Rattle.canonical.specs.Examples.{Example, examples}
 
-pub examples-hold : map (λ (e : Example). canonical (e .file)) examples ≡ map (λ (e : Example). e .form) examples
+pub examples-hold : map (λ (e : Example). canonical (e .given) (e .file)) examples ≡ map (λ (e : Example). e .form) examples
 unfolding
-    canonical fileBytes section records group number before used lowest first sum is same steps walk chain
+    canonical fileBytes section records group number before used lowest first sum is same
+    limitOf writtenOf parentOf lowered steps walk chain
     reading sectionAt claimsAt countFault recordsFrom groupFault claimFault ℕ-discrete decLt
 examples-hold = refl

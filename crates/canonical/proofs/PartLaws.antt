@@ -2,6 +2,8 @@
 --   cell-used cell-below   the cell of a used group: its new number, which is below the count of used groups
 --   low-used high-dropped  a group with a cell below 256 is used, and one with a greater cell is not
 --   for-lower for-top      the number for a parent in a new record
+--   limit-lower limit-past the limit in a new record
+--   above-used above-number    a smaller parent of a used group is used, and has its new number
 --   record-new             the record of a used group in the new numbers
 --   ready-then put-then    more is put, into a buffer that was ready or after what was put before
 --   put-none               the counts were put, and no record
@@ -9,12 +11,14 @@
 --   put-side               all groups of a side were passed
 --   group-most             a group's number is below 256
 --   put-dropped            a group was passed over since it is dropped
---   number-placed put-used the file has a place for the number of a used group, and its record was put there
+--   number-placed          the file has a place for the number of a used group
+--   above-put limit-new    the record of its parent was put before, so the limit in its new record is the file's
+--   record-for put-used    its new record, and that it was put
 --   put-row                the record of a row was put
 use mathlib.Core.Path.{_≡_, refl, sym, ap, ap₂, _∙_, subst}
 use mathlib.Core.Logic.{_⊎_, inl, inr}
 use mathlib.Core.List.{List, _++_}
-use Prim.Native.Nat.{ℕ, _+_, _≤_, _<_}
+use Prim.Native.Nat.{ℕ, _+_, min, _≤_, _<_}
 use native.Mathlib.Decide.{ℕ-discrete, decLt}
 use native.Mathlib.Omega.{arith}
 use lib.Dec.{ltb}
@@ -27,19 +31,19 @@ use Rattle.claimfile.specs.declared.Layout.{Layout}
 use Rattle.claimfile.specs.declared.Group.{Group}
 use Rattle.claimfile.specs.declared.Claim.{Claim}
 use Rattle.claimfile.specs.File.{top}
-use Rattle.claimfile.specs.Day.{countOf, groupOf, claimOf}
+use Rattle.claimfile.specs.Day.{startOf, countOf, groupOf, claimOf}
 use Rattle.claimfile.specs.Sound.{Sound}
 use Rattle.claimfile.specs.Written.{recordsOn, groupBytes, claimBytes, lengthOf}
 use Rattle.claimfile.specs.Put.{Put, groupPlace, claimPlace, CountsPut}
-use Rattle.claimfile.proofs.DayLaws.{side-most}
+use Rattle.claimfile.proofs.DayLaws.{side-most, limit-top, limit-below}
 use Rattle.claimfile.proofs.BegunLaws.{room-kept, begun-counts, begun-less, begun-here, begun-then, begun-group, begun-claim}
-use Rattle.claimfile.proofs.WrittenLaws.{written-length, written-cells}
+use Rattle.claimfile.proofs.WrittenLaws.{group-back, written-length, written-cells}
 use Rattle.limits.proofs.ChainLaws.{parent-lower, parent-root}
 use Rattle.canonical.specs.Side.{Side, usedGroups, number, group, newParent}
 use Rattle.canonical.specs.Canonical.{named, sideOf, canonicalContents, canonicalLayout, Used}
 use Rattle.canonical.specs.Numbers.{Numbers}
 use Rattle.refusal.specs.Writing.{over}
-use Rattle.canonical.specs.Parts.{parentFor, GroupsTo, PutTo, Given, Ready, Numbered, Tables, formOf}
+use Rattle.canonical.specs.Parts.{parentFor, limitFor, GroupsTo, PutTo, Given, Ready, Numbered, Tables, formOf}
 use Rattle.canonical.proofs.ChainLaws.{SoundSide}
 use Rattle.canonical.proofs.OrderLaws.{used-or-not, used-inside, named-used, parent-used}
 use Rattle.canonical.proofs.OrderLaws.{number-small, group-used, number-group, group-number}
@@ -77,6 +81,13 @@ module _ (t : List ℕ) (g up : ℕ) where
   pub for-top : g ≤ up → parentFor t g up ≡ top
   for-top past = rw (le-ltb _ _ past)
 
+module _ (t : List ℕ) (new : Layout) (side parent limit : ℕ) where
+  pub limit-lower : parent < countOf new side → limitFor t new side parent limit ≡ min limit (groupOf t new side parent .limit)
+  limit-lower lower = rw (lt-ltb _ _ lower)
+
+  pub limit-past : countOf new side ≤ parent → limitFor t new side parent limit ≡ limit
+  limit-past past = rw (le-ltb _ _ past)
+
 -- the number for a parent p in the new numbers
 abbrev wordFor : Side → ℕ → ℕ
 wordFor d p = pick (ltb (newParent d p) (usedGroups d)) (newParent d p) top
@@ -104,17 +115,22 @@ module _ {s : List ℕ} {l : Layout} (sound : Sound s l) (side : ℕ) where
     inside : g < countOf l side
     inside = used-inside sound-side g u
 
+    above-used : up < g → Used (sideOf s l side) up
+    above-used lower =
+        let is : up ≡ old .parent g = parent-lower (old .groups) up g lower in
+        subst (Used old) (sym is) (parent-used sound-side g u (omega (arith, inside)))
+
+    above-number : up < g → parentFor t g up ≡ number (sideOf s l side) up
+    above-number lower = for-lower t g up lower ∙ cell-used sound-side numbers up (above-used lower)
+
     parent-new : parentFor t g up ≡ wordFor old (old .parent g)
     parent-new =
         elim (decLt up g) [
           | yes lower ↦
               let is : up ≡ old .parent g = parent-lower (old .groups) up g lower in
-              let below : old .parent g < old .groups = omega (arith, inside) in
-              let used-up : Used old (old .parent g) = parent-used sound-side g u below in
-              for-lower t g up lower
-              ∙ ap (row t) is
-              ∙ cell-used sound-side numbers (old .parent g) used-up
-              ∙ sym (word-number old (old .parent g) below (number-small sound-side (old .parent g) used-up))
+              above-number lower
+              ∙ sym (word-number old up (omega (arith, inside)) (number-small sound-side up (above-used lower)))
+              ∙ ap (wordFor old) is
           | no h ↦
               let past : g ≤ up = omega arith in
               for-top t g up past ∙ sym (word-top old) ∙ ap (wordFor old) (parent-root (old .groups) up g past)
@@ -122,7 +138,7 @@ module _ {s : List ℕ} {l : Layout} (sound : Sound s l) (side : ℕ) where
 
     record-new :
         (p : ℕ) (made : Group) → p ≡ groupOf s l side g .parent → made .parent ≡ parentFor t g p →
-        made .limit ≡ groupOf s l side g .limit → made ≡ canonicalContents s l .group side (number (sideOf s l side) g)
+        made .limit ≡ sideOf s l side .limit g → made ≡ canonicalContents s l .group side (number (sideOf s l side) g)
     record-new p made is parent limit =
         ap₂ {C = Group} (λ (p n : ℕ). record { parent = p; limit = n })
         (parent
@@ -248,18 +264,66 @@ module _ {s : List ℕ} {l new : Layout} {side g : ℕ} {out : List ℕ} (ready 
     numbered : k ≡ number d g
     numbered = cell ∙ cell-used sound numbers g is-used
 
+    abbrev above : ℕ
+    above = groupOf s l side g .parent
+
+    used-above : above < g → Used d above
+    used-above = above-used (ready .given .sound) side numbers g is-used
+
+    -- a smaller parent was put before, with its limit
+    above-put : above < g → groupOf out new side (number d above) .limit ≡ d .limit above
+    above-put lower =
+        let i = number d above in
+        let back = group-number sound above (used-above lower) in
+        let small = number-small sound above (used-above lower) in
+        let put = ready .put .begun .groups side i (omega (arith, records-on s l side, small)) (inr (refl, omega (arith, back))) in
+        ap (λ (k : Layout). groupOf out k side i .limit) (ready .given .layout)
+        ∙ ap (λ (x : Group). x .limit) (group-back out (startOf (canonicalLayout s l) side) i _ put)
+        ∙ ap (d .limit) back
+
+    limit-new : limitFor out new side (parentFor t g above) (groupOf s l side g .limit) ≡ d .limit g
+    limit-new =
+        elim (decLt above g) [
+          | yes lower ↦
+              ap (λ (p : ℕ). limitFor out new side p own) (above-number (ready .given .sound) side numbers g is-used lower)
+              ∙ limit-lower out new side (number d above) own
+              (omega (arith, numbers .count, number-small sound above (used-above lower)))
+              ∙ ap (min own) (above-put lower)
+              ∙ sym (limit-below s l side g inside lower)
+          | no h ↦
+              let past : g ≤ above = omega arith in
+              limit-past out new side (parentFor t g above) own
+              (omega (
+                arith,
+                for-top t g above past,
+                numbers .count,
+                few-groups d,
+                side-most s l (ready .given .sound) side,
+              ))
+              ∙ sym (limit-top s l side g inside past)
+        ]
+      where
+        own : ℕ
+        own = groupOf s l side g .limit
+
+    pub record-for :
+        {p n : ℕ} {made : Group} → p ≡ groupOf s l side g .parent → n ≡ groupOf s l side g .limit →
+        made .parent ≡ parentFor t g p → made .limit ≡ limitFor out new side (made .parent) n →
+        made ≡ canonicalContents s l .group side (row t g)
+    record-for {p} {n} {made} is written parent limit =
+        record-new (ready .given .sound) side numbers g is-used p made is parent
+        (limit ∙ ap₂ (limitFor out new side) (parent ∙ ap (parentFor t g) is) written ∙ limit-new)
+        ∙ ap (canonicalContents s l .group side) (sym (cell-used sound numbers g is-used))
+
     pub put-used :
-        {p : ℕ} {made : Group} {out′ : List ℕ} → p ≡ groupOf s l side g .parent → made .parent ≡ parentFor t g p →
-        made .limit ≡ groupOf s l side g .limit → Put out out′ (groupPlace new side k) (groupBytes made) →
-        PutTo s l side (g + 1) 0 out out′
-    put-used {p} {made} is parent limit put =
+        {made : Group} {out′ : List ℕ} → made ≡ canonicalContents s l .group side (row t g) →
+        Put out out′ (groupPlace new side k) (groupBytes made) → PutTo s l side (g + 1) 0 out out′
+    put-used made-is put =
         record {
           begun =
               begun-group (canonicalContents s l) (ready .put .begun) (λ n h. refl) side k
               (omega (arith, number-placed, numbers .count, records-on s l side)) (ready .given .layout)
-              (record-new (ready .given .sound) side numbers g is-used p made is parent limit
-              ∙ ap (canonicalContents s l .group side) (sym numbered))
-              passed put;
+              (made-is ∙ ap (canonicalContents s l .group side) (sym cell)) passed put;
         }
       where
         passed :

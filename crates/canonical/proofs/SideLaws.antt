@@ -5,6 +5,8 @@
 --   canonical-side-sound   parents in the new numbers are smaller groups or the top, and rows name groups
 --   canonical-side-renumbered  its groups correspond to the used groups of the side
 --   canonical-side-used canonical-side-order   each of them is used, and they stand in order
+--   Lowered d              no group's limit is above its parent's
+--   canonical-side-lowered so it is in the new numbers where it is so before
 --   canonical-side-alike   sides whose used groups correspond are the same in the new numbers
 use mathlib.Core.Path.{_≡_, refl, sym, ap, _∙_, subst, subst₂}
 use mathlib.Core.Logic.{_⊎_, inl, inr}
@@ -31,6 +33,9 @@ module _ (d : Side) where
   new-top p e =
       let h : d .groups ≤ p = omega arith in
       rw (le-ltb _ _ h)
+
+abbrev pub Lowered : Side → Type 0
+Lowered d = (g : ℕ) → g < d .groups → d .parent g < d .groups → d .limit g ≤ d .limit (d .parent g)
 
 module _ {d : Side} (sound : SoundSide d) where
   parent-of : (g : ℕ) → Used d g → (d .parent g < d .groups) ⊎ Top d g
@@ -125,6 +130,21 @@ module _ {d : Side} (sound : SoundSide d) where
       subst₂ (Before (canonicalSide d)) ei ej
       (before-kept sound canonical-side-sound canonical-side-renumbered (group d i) (group d j) ui uj
       (number-before sound (group d i) (group d j) ui uj (omega arith)))
+
+  pub canonical-side-lowered : Lowered d → Lowered (canonicalSide d)
+  canonical-side-lowered low i l h =
+      let g = group d i in
+      let u = group-used sound i l in
+      elim (parent-of g u) [
+        | inl k ↦
+            let back = group-number sound (d .parent g) (parent-used sound g u k) in
+            omega (
+              arith,
+              low g (used-inside sound g u) k,
+              ap (λ x. d .limit (group d x)) (new-parent d (d .parent g) k) ∙ ap (d .limit) back,
+            )
+        | inr e ↦ absurd (omega (arith, new-top d (d .parent g) e))
+      ]
 
 module _ {d e : Side} (sd : SoundSide d) (se : SoundSide e) (n : Renumbering d e) where
   pub canonical-side-alike : AlikeSides (canonicalSide d) (canonicalSide e)

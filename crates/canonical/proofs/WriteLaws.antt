@@ -10,6 +10,7 @@ use native.Mathlib.Omega.{arith}
 use borrow.Author.Tests.{lt-ltb, le-ltb}
 use lib.ListN.{length}
 use Rattle.theory.specs.Bounds.{maxGroups}
+use Rattle.claimfile.specs.declared.Form.{Form}
 use Rattle.claimfile.specs.declared.Layout.{Layout}
 use Rattle.claimfile.specs.declared.Refusal.{Refusal}
 use Rattle.claimfile.specs.declared.Reading.{Reading}
@@ -82,24 +83,24 @@ module _ {s : List ℕ} {l : Layout} (sound : Sound s l) where
 --------------------------------------------------------------------------------
 -- The file
 
-module _ (s out : List ℕ) where
-  by : (x : Reading) → reading s ≡ x → outcome s out ≡ outcomeBy s out x
+module _ (f : Form) (s out : List ℕ) where
+  by : (x : Reading) → reading f s ≡ x → outcome f s out ≡ outcomeBy f s out x
   unfolding outcome
-  by x e = ap (outcomeBy s out) e
+  by x e = ap (outcomeBy f s out) e
 
-  away : (why : Reason) → outcome s out ≡ turned why out → Writes s out out (Refused why)
-  away why e = leaves-is (outcome s out) (turned why out) e out (Refused why) refl refl
+  away : (why : Reason) → outcome f s out ≡ turned why out → Writes f s out out (Refused why)
+  away why e = leaves-is (outcome f s out) (turned why out) e out (Refused why) refl refl
 
-  pub writes-refused : (why : Refusal) → reading s ≡ reading-is.Refused why → Writes s out out (Refused (File why))
+  pub writes-refused : (why : Refusal) → reading f s ≡ reading-is.Refused why → Writes f s out out (Refused (File why))
   writes-refused why e = away (File why) (by (reading-is.Refused why) e)
 
-  module _ (l : Layout) (is : reading s ≡ reading-is.Accepted l) where
-    pub writes-short : length out < length s → Writes s out out (Refused Short)
+  module _ (l : Layout) (is : reading f s ≡ reading-is.Accepted l) where
+    pub writes-short : length out < length s → Writes f s out out (Refused Short)
     writes-short h = away Short (by (reading-is.Accepted l) is ∙ rw (lt-ltb _ _ h))
 
     pub writes-written :
-        (out′ : List ℕ) (n : ℕ) → length s ≤ length out → WritesOn s l out out′ n → Writes s out out′ (Bytes n)
+        (out′ : List ℕ) (n : ℕ) → length s ≤ length out → WritesOn s l out out′ n → Writes f s out out′ (Bytes n)
     writes-written out′ n long on =
-        leaves-is (outcome s out) (written (canonical s) out) (by (reading-is.Accepted l) is ∙ rw (le-ltb _ _ long)) out′ (Bytes n)
-        (ap Bytes (on .answer ∙ ap (length {A = ℕ}) (sym (canonical-is s l is))))
-        (on .cells ∙ ap (λ (text : List ℕ). over text out) (sym (canonical-is s l is)))
+        leaves-is (outcome f s out) (written (canonical f s) out) (by (reading-is.Accepted l) is ∙ rw (le-ltb _ _ long)) out′
+        (Bytes n) (ap Bytes (on .answer ∙ ap (length {A = ℕ}) (sym (canonical-is f s l is))))
+        (on .cells ∙ ap (λ (text : List ℕ). over text out) (sym (canonical-is f s l is)))

@@ -1,33 +1,36 @@
--- The canonical file, and when two files differ only in group numbering and in groups that are dropped (document 02, E3).
+-- The canonical file, and when two files differ only in group numbering and in groups that are dropped (document 02, E3 and E4).
 --   named s l side c       the group that row c names on a side: side 0 is card, side 1 is shop
---   sideOf s l side        a side of an accepted file
+--   sideOf s l side        a side of an accepted file, new or stored, with its limits as lowered
 --   parentWord d g         the number that stands in a record for the parent of group g
 --   recordOf d g           the record of group g
 --   contentsOf d kind      what a file holds that has the sides d 0 and d 1 and these kinds
 --   canonicalContents s l  what the canonical file of an accepted file holds: its sides in the new numbers
 --   canonicalLayout s l    how the canonical file is laid out
 --   canonicalBy s x        the canonical file of a file with the reading x; no bytes where it is refused
---   canonical s            the canonical file
+--   canonical f s          the canonical file of a file in the form f, new or stored
 --   Bytes s                each number of s is a byte
 --   Used d g               a row counts in group g
 --   Top d g                group g is at the top
 --   Carries d e to         `to` takes used groups of d to used groups of e, with the same limits, tops, parents and rows
 --   Renumbering d e        the used groups of two sides correspond one to one: they are carried there and back
 --   SameDay s k t l        two accepted files, with their layouts, differ only in group numbering and in groups that are dropped
-use Prim.Native.Nat.{ℕ, zero, suc, _≤_, _<_}
+-- E4: "The canonical writer's second call writes a stored file as lowered; where E3 compares files, a stored one is compared as
+-- lowered." A new file's limits are the written ones (`new-side-limit`, proofs/DayLaws.antt).
+use Prim.Native.Nat.{ℕ, zero, suc, _+_, _≤_, _<_}
 use mathlib.Core.Path.{_≡_}
 use mathlib.Core.List.{List, []}
 use lib.Dec.{ltb}
 use lib.ListN.{getD}
 use Rattle.theory.specs.Sum.{pick}
+use Rattle.claimfile.specs.declared.Form.{Form}
 use Rattle.claimfile.specs.declared.Layout.{Layout}
 use Rattle.claimfile.specs.declared.Group.{Group}
 use Rattle.claimfile.specs.declared.Reading.{Reading}
 use Rattle.claimfile.specs.declared.Reading.the-variants.{Accepted, Refused}
 use Rattle.claimfile.specs.File.{top, reading}
-use Rattle.claimfile.specs.Day.{countOf, namedCard, namedShop, kindOf}
+use Rattle.claimfile.specs.Day.{countOf, namedCard, namedShop, kindOf, firstOf, limitOf}
 use Rattle.claimfile.specs.Written.{Contents, fileBytes, layoutFor}
-use Rattle.limits.specs.Side.{parentIn, limitIn}
+use Rattle.limits.specs.Side.{parentIn}
 use Rattle.canonical.specs.Side.{Side, counts, canonicalSide}
 
 --------------------------------------------------------------------------------
@@ -42,7 +45,7 @@ sideOf s l side = record {
   groups = countOf l side;
   rows = l .rows;
   parent = parentIn s l side;
-  limit = limitIn s l side;
+  limit = λ g. limitOf s l (firstOf l side + g);
   names = named s l side;
 }
 
@@ -73,8 +76,8 @@ abbrev pub canonicalBy : List ℕ → Reading → List ℕ
 canonicalBy s (Accepted l) = fileBytes (canonicalContents s l)
 canonicalBy s (Refused why) = []
 
-unfoldable pub canonical : List ℕ → List ℕ
-canonical s = canonicalBy s (reading s)
+unfoldable pub canonical : Form → List ℕ → List ℕ
+canonical f s = canonicalBy s (reading f s)
 
 abbrev pub Bytes : List ℕ → Type 0
 Bytes s = (i : ℕ) → getD s i 0 < 256

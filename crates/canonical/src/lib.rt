@@ -1,19 +1,24 @@
 // The canonical file: one form for all files that differ only in group numbering and in groups with no claim in or beneath them.
 //
 // `write_canonical` takes any bytes and any buffer. The groups of each side are numbered anew (`number`). Then the counts are
-// put, the record of each group at the place of its new number, and the claims in the new numbers. The memory beside the lent
-// buffer is one number for each group.
+// put, the record of each group at the place of its new number, and the claims in the new numbers. A parent's record is put before
+// its child's, so a limit is lowered to the one that stands there; in a new file it is nowhere above that one. The memory beside
+// the lent buffer is one number for each group.
 mod number;
 
 ghost use mathlib.Core.Path.{_≡_};
 ghost use Prim.Native.Nat.{_+_, _<_, _≤_};
 ghost use lib.ListN.{length};
 ghost use Rattle.theory.specs.Bounds.{maxGroups};
+ghost use Rattle.claimfile.specs.File.{newFile, storedFile};
 ghost use Rattle.claimfile.specs.Day.{countOf};
 ghost use Rattle.claimfile.specs.Sound.{Sound};
+ghost use Rattle.claimfile.specs.Put.{Room};
 ghost use Rattle.canonical.specs.Write.{Writes};
-ghost use Rattle.canonical.specs.Parts.{parentFor, Numbered, Tables, PutTo, Given, Ready, WritesOn};
+ghost use Rattle.canonical.specs.Numbers.{cell};
+ghost use Rattle.canonical.specs.Parts.{parentFor, limitFor, Numbered, Tables, NewRecord, PutTo, Given, Ready, WritesOn};
 use claimfile::Claim;
+use claimfile::Form;
 use claimfile::Group;
 use claimfile::Layout;
 use claimfile::Reading;
@@ -22,6 +27,7 @@ use claimfile::claim_of;
 use claimfile::group_of;
 use claimfile::groups_on;
 use claimfile::read;
+use claimfile::write::group_put;
 use claimfile::write::layout_for;
 use claimfile::write::length_of;
 use claimfile::write::put_claim;
@@ -49,6 +55,42 @@ fn parent_for(g: usize, parent: usize, cells: &[u16; MAX_GROUPS]) -> usize
     wide(cells[parent])
 }
 
+// The limit of a group with the parent `parent` in the new numbers, by the one in its record: no more than the limit that was put
+// for that parent. At the top it stays.
+fn limit_for(new: Layout, side: usize, parent: usize, limit: usize, out: &[u8]) -> usize
+    requires { ⌜ (Room new (now out)) × (limit < 65536) ⌝ }
+    ensures { λ r. ⌜ (r ≡ limitFor (now (out .entry)) new side parent limit) × (r < 65536) ⌝ }
+{
+    if groups_on(new, side) <= parent {
+        return limit;
+    }
+    let above = group_put(new, side, parent, out);
+    if above.limit < limit {
+        return above.limit;
+    }
+    limit
+}
+
+// The record of group `g` in the canonical file, where `g` has a new number and the groups before it are put.
+fn record_for(
+    file: &[u8],
+    layout: Layout,
+    new: Layout,
+    side: usize,
+    g: usize,
+    cells: &[u16; MAX_GROUPS],
+    out: &[u8],
+) -> Group
+    requires { ⌜ (Ready (now file) layout new side g 0 (now out)) × (g < countOf layout side) ⌝ }
+    requires { ⌜ (Numbered (now file) layout new side (now cells)) × (cell (now cells) g < maxGroups) ⌝ }
+    ensures { λ r. ⌜ NewRecord (now (file .entry)) layout side (cell (now (cells .entry)) g) r ⌝ }
+{
+    let group = group_of(file, layout, side, g);
+    let parent = parent_for(g, group.parent, cells);
+    let limit = limit_for(new, side, parent, group.limit, out);
+    Group { parent, limit }
+}
+
 // Puts the record of group `g` at the place of its new number, where it has one.
 fn put_record(
     file: &[u8],
@@ -67,16 +109,12 @@ fn put_record(
     if MAX_GROUPS <= number {
         return;
     }
-    let group = group_of(file, layout, side, g);
-    let parent = parent_for(g, group.parent, cells);
-    let record = Group {
-        parent,
-        limit: group.limit,
-    };
+    let record = record_for(file, layout, new, side, g, cells, out);
     put_group(new, side, number, record, out);
 }
 
-// Puts the records of the groups of a side that have a new number.
+// Puts the records of the groups of a side that have a new number: a parent's before its child's, since its number in the file is
+// smaller.
 fn put_groups(
     file: &[u8],
     layout: Layout,
@@ -173,12 +211,12 @@ fn canonical_on(file: &[u8], layout: Layout, out: &mut [u8]) -> usize
     length_of(new)
 }
 
-// Writes the canonical file of a file, and answers its length. The buffer is as long as the file read, or longer; its bytes past
-// the written length keep their values.
-pub fn write_canonical(file: &[u8], out: &mut [u8]) -> Written
-    ensures { λ r. ⌜ Writes (now (file .entry)) (now (out .entry)) (now (out .exit)) r ⌝ }
+// Writes the canonical file of a file in a form, and answers its length. The buffer is as long as the file read, or longer; its
+// bytes past the written length keep their values.
+fn write_canonical_as(file: &[u8], form: Form, out: &mut [u8]) -> Written
+    ensures { λ r. ⌜ Writes form (now (file .entry)) (now (out .entry)) (now (out .exit)) r ⌝ }
 {
-    let reading = read(file);
+    let reading = read(file, form);
     match reading {
         Reading::Refused(why) => Written::Refused(Reason::File(why)),
         Reading::Accepted(layout) => {
@@ -188,4 +226,19 @@ pub fn write_canonical(file: &[u8], out: &mut [u8]) -> Written
             Written::Bytes(canonical_on(file, layout, out))
         }
     }
+}
+
+// Writes the canonical file of a file, and answers its length. The buffer is as long as the file read, or longer; its bytes past
+// the written length keep their values.
+pub fn write_canonical(file: &[u8], out: &mut [u8]) -> Written
+    ensures { λ r. ⌜ Writes newFile (now (file .entry)) (now (out .entry)) (now (out .exit)) r ⌝ }
+{
+    write_canonical_as(file, Form { stored: false }, out)
+}
+
+// The same for a stored file, which is written as lowered.
+pub fn write_canonical_stored(file: &[u8], out: &mut [u8]) -> Written
+    ensures { λ r. ⌜ Writes storedFile (now (file .entry)) (now (out .entry)) (now (out .exit)) r ⌝ }
+{
+    write_canonical_as(file, Form { stored: true }, out)
 }

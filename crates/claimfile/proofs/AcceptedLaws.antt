@@ -4,8 +4,11 @@
 --   group-fine claim-fine      the fields of a group and of a claim without a fault
 --   taken                      a section that was read
 --   accepted-sound             an accepted file is sound
+--   accepted-stored            it is accepted as a stored file too
+--   new-below                  in a new file no group's limit is above its parent's
 --   longest                    it has at most 4,614 bytes
 use mathlib.Core.Path.{_≡_, refl, sym, ap, _∙_, subst}
+use mathlib.Core.Bool.{false}
 use mathlib.Core.Logic.{inl, inr}
 use mathlib.Core.List.{List}
 use Prim.Native.Nat.{ℕ, zero, suc, _+_, _*_, _-_, _<_, _≤_}
@@ -16,10 +19,12 @@ use native.Mathlib.Omega.{arith}
 use lib.ListN.{length, drop, length-drop}
 use borrow.Author.Tests.{lt-ltb, lt-leb, le-leb}
 use Rattle.theory.specs.Bounds.{maxGroups, maxRows}
-use Rattle.claimfile.specs.File.{top, groupWidth, claimWidth, word, groupAt, claimAt, groupFault, claimFault, recordsFrom}
+use Rattle.claimfile.specs.File.{newFile, storedFile, top, groupWidth, claimWidth, word, groupAt, claimAt}
+use Rattle.claimfile.specs.File.{groupFault, claimFault, recordsFrom}
 use Rattle.claimfile.specs.File.{groupsFrom, rowsFrom, countFault, sectionOf, sectionBy, sectionAt, claimsAt, reading}
 use Rattle.claimfile.specs.Day.{countOf, groupOf}
-use Rattle.claimfile.specs.Sound.{SmallerOrTop, Sound}
+use Rattle.claimfile.specs.Sound.{SmallerOrTop, Sound, NoneAbove}
+use Rattle.claimfile.specs.declared.Form.{Form}
 use Rattle.claimfile.specs.declared.Refusal.{Refusal}
 use Rattle.claimfile.specs.declared.Refusal.the-variants.{GroupCount, ClaimCount, NoSuchGroup, Kind}
 use Rattle.claimfile.specs.declared.Checked.{Checked}
@@ -31,7 +36,8 @@ use Rattle.claimfile.specs.declared.Reading.the-variants.{Accepted, Refu
 use Rattle.claimfile.specs.declared.Layout.{Layout}
 use Rattle.claimfile.specs.declared.Group.{Group}
 use Rattle.claimfile.specs.declared.Claim.{Claim}
-use Rattle.claimfile.proofs.FileLaws.{never, parent-bad, record-cut, record-fault, next-record}
+use Rattle.claimfile.proofs.FileLaws.{never, group-bad, group-top, group-stored, group-above}
+use Rattle.claimfile.proofs.FileLaws.{record-cut, record-fault, next-record, records-pass}
 use Rattle.claimfile.proofs.FileLaws.{count-fine, section-fault, section-fits}
 use Rattle.claimfile.proofs.FileLaws.{cards-fault, shops-fault, claims-fault, trailing, accepted}
 
@@ -87,14 +93,41 @@ all-whole :
 all-whole size start width zero first each = simp mul-zero (omega arith)
 all-whole size start width (suc n) first each = rw mul-suc (omega (arith, each n (omega arith)))
 
-group-fine : (own : ℕ) (group : Group) → groupFault own group ≡ Fine → SmallerOrTop own (group .parent)
-group-fine own group e =
-    elim (decLt (group .parent) own) [
-      | yes small ↦ inl small
-      | no large ↦
-          elim (ℕ-discrete (group .parent) top) [
-            | yes is ↦ inr is
-            | no other ↦ never _ _ e (parent-bad own group (omega arith) other)
+-- the fields of a group without a fault
+record FineGroup (f : Form) (group : ℕ → Group) (own : ℕ) : Type 0 where
+  parent : SmallerOrTop own (group own .parent)
+  limit : f .stored ≡ false → group own .parent < own → group own .limit ≤ group (group own .parent) .limit
+
+group-fine : (f : Form) (group : ℕ → Group) (own : ℕ) → groupFault f group own ≡ Fine → FineGroup f group own
+group-fine f group own e = record { parent = parent; limit = limit }
+  where
+    parent : SmallerOrTop own (group own .parent)
+    parent =
+        elim (decLt (group own .parent) own) [
+          | yes small ↦ inl small
+          | no large ↦
+              elim (ℕ-discrete (group own .parent) top) [
+                | yes is ↦ inr is
+                | no other ↦ never _ _ e (group-bad f group own (omega arith) other)
+              ]
+        ]
+
+    limit : f .stored ≡ false → group own .parent < own → group own .limit ≤ group (group own .parent) .limit
+    limit new small =
+        elim (decLt (group (group own .parent) .limit) (group own .limit)) [
+          | yes more ↦ never _ _ e (group-above f group own small new more)
+          | no less ↦ omega arith
+        ]
+
+-- they have none in a stored file either
+fine-stored : (f : Form) (group : ℕ → Group) (own : ℕ) → FineGroup f group own → groupFault storedFile group own ≡ Fine
+fine-stored f group own fine =
+    elim (decLt (group own .parent) own) [
+      | yes small ↦ group-stored storedFile group own small refl
+      | no h ↦
+          elim (fine .parent) [
+            | inl small ↦ absurd (h small)
+            | inr is ↦ group-top storedFile group own (omega arith) is
           ]
     ]
 
@@ -172,21 +205,49 @@ module _ (s : List ℕ) (at most : ℕ) (over : Refusal) (width : ℕ) (checked 
           let fine = count-fine s at most over f in
           told (fine .0) (fine .1) checked refl (sym e ∙ section-fits s at most over width checked f)
 
-abbrev GroupFits : List ℕ → ℕ → ℕ → Type 0
-GroupFits s start g = SmallerOrTop g (groupAt s start g .parent)
+  -- its records have no fault
+  read-fine : sectionBy s at most over width checked ≡ Read count start next → checked ≡ Fine
+  read-fine e = judged (countFault s at most over) refl
+    where
+      told :
+          (x : Checked) → checked ≡ x → Read count start next ≡ sectionOf x (word s at) (at + 2) width → checked ≡ Fine
+      told Fine f is = f
+      told (Fault why) f is = never-read (Read count start next) why count start next refl is
+
+      judged : (x : Checked) → countFault s at most over ≡ x → checked ≡ Fine
+      judged (Fault why) f = never-read _ why count start next e (section-fault s at most over width checked why f)
+      judged Fine f = told checked refl (sym e ∙ section-fits s at most over width checked f)
+
+abbrev GroupFits : Form → List ℕ → ℕ → ℕ → Type 0
+GroupFits f s start = FineGroup f (groupAt s start)
 
 abbrev RowFits : List ℕ → ℕ → ℕ → ℕ → ℕ → Type 0
 RowFits s cards shops start c = FineClaim (claimAt (drop start s) c) cards shops
 
 module _ (s : List ℕ) (at count start next : ℕ) where
   section-read :
-      sectionAt s at ≡ Read count start next → Taken s at maxGroups groupWidth (GroupFits s) count start next
+      (f : Form) → sectionAt f s at ≡ Read count start next →
+      Taken s at maxGroups groupWidth (GroupFits f s) count start next
   unfolding sectionAt
-  section-read =
-      taken s at maxGroups GroupCount groupWidth (groupsFrom s (at + 2) 0 (word s at)) count start next (GroupFits s)
-      (λ f g l.
-      let r = records-fine (length s) (at + 2) groupWidth (λ g. groupFault g (groupAt s (at + 2) g)) (word s at) f g l in
-      (r .whole, group-fine g (groupAt s (at + 2) g) (r .fine)))
+  section-read f =
+      taken s at maxGroups GroupCount groupWidth (groupsFrom f s (at + 2) 0 (word s at)) count start next (GroupFits f s)
+      (λ fine g l.
+      let r = records-fine (length s) (at + 2) groupWidth (groupFault f (groupAt s (at + 2))) (word s at) fine g l in
+      (r .whole, group-fine f (groupAt s (at + 2)) g (r .fine)))
+
+  -- it is read as a section of a stored file too
+  section-stored :
+      (f : Form) → sectionAt f s at ≡ Read count start next → sectionAt storedFile s at ≡ Read count start next
+  unfolding sectionAt
+  section-stored f e =
+      let group = groupAt s (at + 2) in
+      let fine = read-fine s at maxGroups GroupCount groupWidth (groupsFrom f s (at + 2) 0 (word s at)) count start next e in
+      let each : (g : ℕ) → g < word s at → FineRecord (length s) (at + 2) groupWidth (groupFault f group) g =
+      records-fine (length s) (at + 2) groupWidth (groupFault f group) (word s at) fine in
+      let stored : groupsFrom storedFile s (at + 2) 0 (word s at) ≡ Fine =
+      records-pass (length s) (at + 2) groupWidth (groupFault storedFile group) (word s at) (λ g l. each g l .whole)
+      (λ g l. fine-stored f group g (group-fine f group g (each g l .fine))) (word s at) 0 (omega arith) in
+      ap (sectionBy s at maxGroups GroupCount groupWidth) (stored ∙ sym fine) ∙ e
 
   claims-read :
       (cards shops : ℕ) → claimsAt s at cards shops ≡ Read count start next →
@@ -205,15 +266,28 @@ module _ (s : List ℕ) (at count start next : ℕ) where
 --------------------------------------------------------------------------------
 -- The file
 
+-- what holds of a file that is accepted in a form
+record Accords (f : Form) (s : List ℕ) (l : Layout) : Type 0 where
+  sound : Sound s l
+  stored : reading storedFile s ≡ Accepted l
+  below : f .stored ≡ false → NoneAbove s l
+
 -- three sections that were read, one behind the other, up to the end of the file
-module _ (s : List ℕ) (l : Layout) (next after end : ℕ) where
-  sound :
-      Taken s 0 maxGroups groupWidth (GroupFits s) (l .cards) (l .«card_at») next →
-      Taken s next maxGroups groupWidth (GroupFits s) (l .shops) (l .«shop_at») after →
+module _ (f : Form) (s : List ℕ) (l : Layout) (next after end : ℕ) where
+  accords :
+      Taken s 0 maxGroups groupWidth (GroupFits f s) (l .cards) (l .«card_at») next →
+      Taken s next maxGroups groupWidth (GroupFits f s) (l .shops) (l .«shop_at») after →
       Taken s after maxRows claimWidth (RowFits s (l .cards) (l .shops)) (l .rows) (l .«row_at») end →
-      length s ≤ end → Sound s l
-  sound cards shops rows h =
-      record {
+      length s ≤ end → reading storedFile s ≡ Accepted l → Accords f s l
+  accords cards shops rows h stored =
+      record { sound = sound; stored = stored; below = λ new side g m. groups side g m .limit new }
+    where
+      groups : (side g : ℕ) → g < countOf l side → FineGroup f (groupOf s l side) g
+      groups zero = cards .each
+      groups (suc n) = shops .each
+
+      sound : Sound s l
+      sound = record {
         card-place = omega arith;
         shop-place = omega arith;
         row-place = omega arith;
@@ -221,52 +295,59 @@ module _ (s : List ℕ) (l : Layout) (next after end : ℕ) where
         cards-most = cards .small;
         shops-most = shops .small;
         rows-most = rows .small;
-        parents = parents;
+        parents = λ side g m. groups side g m .parent;
         row-cards = λ c m. rows .each c m .card;
         row-shops = λ c m. rows .each c m .shop;
         row-kinds = λ c m. rows .each c m .kind;
       }
-    where
-      parents : (side g : ℕ) → g < countOf l side → SmallerOrTop g (groupOf s l side g .parent)
-      parents zero = cards .each
-      parents (suc n) = shops .each
 
-module _ (s : List ℕ) (l : Layout) (is : reading s ≡ Accepted l) where
-  refused : {A : Type 0} (why : Refusal) → reading s ≡ Refused why → A
-  refused why e = not-both (reading s) l why is e
+module _ (f : Form) (s : List ℕ) (l : Layout) (is : reading f s ≡ Accepted l) where
+  refused : {A : Type 0} (why : Refusal) → reading f s ≡ Refused why → A
+  refused why e = not-both (reading f s) l why is e
 
-  sound-claims :
-      (cards cardAt next shops shopAt after : ℕ) → sectionAt s 0 ≡ Read cards cardAt next →
-      sectionAt s next ≡ Read shops shopAt after → (x : Section) → claimsAt s after cards shops ≡ x → Sound s l
-  sound-claims cards cardAt next shops shopAt after cards-are shops-are (Faulty why) e =
-      refused why (claims-fault s cards cardAt next cards-are shops shopAt after shops-are why e)
-  sound-claims cards cardAt next shops shopAt after cards-are shops-are (Read rows rowAt end) e =
+  through-claims :
+      (cards cardAt next shops shopAt after : ℕ) → sectionAt f s 0 ≡ Read cards cardAt next →
+      sectionAt f s next ≡ Read shops shopAt after → (x : Section) → claimsAt s after cards shops ≡ x → Accords f s l
+  through-claims cards cardAt next shops shopAt after cards-are shops-are (Faulty why) e =
+      refused why (claims-fault f s cards cardAt next cards-are shops shopAt after shops-are why e)
+  through-claims cards cardAt next shops shopAt after cards-are shops-are (Read rows rowAt end) e =
       elim (decLt end (length s)) [
         | yes more ↦
-            refused _ (trailing s cards cardAt next cards-are shops shopAt after shops-are rows rowAt end e more)
+            refused _ (trailing f s cards cardAt next cards-are shops shopAt after shops-are rows rowAt end e more)
         | no h ↦
             let whole : length s ≤ end = omega arith in
-            subst (Sound s)
+            subst (Accords f s)
             (one-layout _ _ _
-            (accepted s cards cardAt next cards-are shops shopAt after shops-are rows rowAt end e whole) is)
-            (sound s _ next after end (section-read s 0 cards cardAt next cards-are)
-            (section-read s next shops shopAt after shops-are) (claims-read s after rows rowAt end cards shops e) whole)
+            (accepted f s cards cardAt next cards-are shops shopAt after shops-are rows rowAt end e whole) is)
+            (accords f s _ next after end (section-read s 0 cards cardAt next f cards-are)
+            (section-read s next shops shopAt after f shops-are) (claims-read s after rows rowAt end cards shops e) whole
+            (accepted storedFile s cards cardAt next (section-stored s 0 cards cardAt next f cards-are) shops shopAt after
+            (section-stored s next shops shopAt after f shops-are) rows rowAt end e whole))
       ]
 
-  sound-shops :
-      (cards cardAt next : ℕ) → sectionAt s 0 ≡ Read cards cardAt next → (x : Section) → sectionAt s next ≡ x →
-      Sound s l
-  sound-shops cards cardAt next cards-are (Faulty why) e =
-      refused why (shops-fault s cards cardAt next cards-are why e)
-  sound-shops cards cardAt next cards-are (Read shops shopAt after) e =
-      sound-claims cards cardAt next shops shopAt after cards-are e (claimsAt s after cards shops) refl
+  through-shops :
+      (cards cardAt next : ℕ) → sectionAt f s 0 ≡ Read cards cardAt next → (x : Section) → sectionAt f s next ≡ x →
+      Accords f s l
+  through-shops cards cardAt next cards-are (Faulty why) e =
+      refused why (shops-fault f s cards cardAt next cards-are why e)
+  through-shops cards cardAt next cards-are (Read shops shopAt after) e =
+      through-claims cards cardAt next shops shopAt after cards-are e (claimsAt s after cards shops) refl
 
-  sound-cards : (x : Section) → sectionAt s 0 ≡ x → Sound s l
-  sound-cards (Faulty why) e = refused why (cards-fault s why e)
-  sound-cards (Read cards cardAt next) e = sound-shops cards cardAt next e (sectionAt s next) refl
+  through-cards : (x : Section) → sectionAt f s 0 ≡ x → Accords f s l
+  through-cards (Faulty why) e = refused why (cards-fault f s why e)
+  through-cards (Read cards cardAt next) e = through-shops cards cardAt next e (sectionAt f s next) refl
 
   pub accepted-sound : Sound s l
-  accepted-sound = sound-cards (sectionAt s 0) refl
+  accepted-sound = through-cards (sectionAt f s 0) refl .sound
+
+  pub accepted-stored : reading storedFile s ≡ Accepted l
+  accepted-stored = through-cards (sectionAt f s 0) refl .stored
+
+  accepted-below : f .stored ≡ false → NoneAbove s l
+  accepted-below = through-cards (sectionAt f s 0) refl .below
+
+pub new-below : (s : List ℕ) (l : Layout) → reading newFile s ≡ Accepted l → NoneAbove s l
+new-below s l is = accepted-below newFile s l is refl
 
 -- "The longest file has 4,614 bytes."
 pub longest : (s : List ℕ) (l : Layout) → Sound s l → length s ≤ 4614

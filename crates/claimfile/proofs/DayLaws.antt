@@ -2,26 +2,37 @@
 --   start-shop count-shop      a side that is not the card side is the shop side
 --   side-most group-within     a side has at most 256 groups, and the file holds their records
 --   above-is                   the node above a group: a smaller group of its section, or the root
---   parent-on limit-on         a group of a side, by its record
+--   parent-on written-on       a group of a side, by its record
+--   side-room root-past        the nodes of a side lie within the network, and its root past it
 --   each-node                  a fact of every group of each side is one of every node
 --   card-node shop-node        where a row hangs, by its record
---   sound-formed               the network of a sound file is formed
---   word-small limit-small     numbers of two bytes
-use mathlib.Core.Path.{_≡_, refl, _∙_}
+--   day-down sound-formed      the parents are a forest, and the network of a sound file is formed
+--   limit-top limit-below      the limit of a group of a side: the written one, or its parent's where that is less
+--   limit-only                 numbers that are so from the front are the limits
+--   limit-small                limits are numbers of two bytes
+--   limit-written              limits that are nowhere above their parent's are the written ones
+--   limit-lists limit-spare    the same lists of rows fit the limits and the written ones, and a row has as many spare places
+use mathlib.Core.Path.{_≡_, refl, sym, _∙_}
 use mathlib.Core.Logic.{_⊎_, inl, inr, _≢_}
 use mathlib.Core.List.{List}
-use Prim.Native.Nat.{ℕ, zero, suc, _+_, _*_, _-_, _<_, _≤_}
+use Prim.Native.Nat.{ℕ, zero, suc, _+_, _*_, _-_, min, _<_, _≤_}
 use native.Mathlib.Decide.{decLt}
-use native.Mathlib.Nat.{zero-add}
+use native.Mathlib.Nat.{zero-add, le-refl}
 use native.Mathlib.Omega.{arith}
 use lib.ListN.{length, getD}
 use borrow.Author.Tests.{lt-ltb, le-ltb}
 use Rattle.theory.specs.Bounds.{maxGroups}
+use Rattle.theory.specs.Forest.{Down}
 use Rattle.theory.specs.Formed.{Formed}
+use Rattle.theory.specs.Lowered.{lesser}
+use Rattle.theory.specs.Spare.{sparePlaces}
+use Rattle.theory.proofs.ListsLaws.{SameLists}
+use Rattle.theory.proofs.LoweredLaws.{lowered-top, lowered-below, lowered-only, lowered-le, lowered-same, lowered-lists}
+use Rattle.theory.proofs.LoweredLaws.{spare-lowered}
 use Rattle.claimfile.specs.File.{groupWidth, word}
 use Rattle.claimfile.specs.Day.{startOf, countOf, groupOf, claimOf, groupsOf, firstOf, rootOf, above, upOf}
-use Rattle.claimfile.specs.Day.{parentOf, limitOf, cardNode, shopNode, networkOf}
-use Rattle.claimfile.specs.Sound.{Sound}
+use Rattle.claimfile.specs.Day.{parentOf, writtenOf, limitOf, cardNode, shopNode, networkOf, instanceOf, writtenDay}
+use Rattle.claimfile.specs.Sound.{Sound, NoneAbove}
 use Rattle.claimfile.specs.declared.Layout.{Layout}
 
 pub start-shop : (l : Layout) (side : ℕ) → side ≢ 0 → startOf l side ≡ l .«shop_at»
@@ -50,8 +61,16 @@ module _ (s : List ℕ) (l : Layout) (sound : Sound s l) where
 --------------------------------------------------------------------------------
 -- The network
 
+pub side-room : (l : Layout) (side : ℕ) → firstOf l side + countOf l side ≤ groupsOf l
+side-room l zero = omega arith
+side-room l (suc n) = le-refl (groupsOf l)
+
+pub root-past : (l : Layout) (side : ℕ) → groupsOf l ≤ rootOf l side
+root-past l zero = le-refl (groupsOf l)
+root-past l (suc n) = omega arith
+
 -- the node above a group is a smaller group of its section, or the root
-above-is :
+pub above-is :
     (own parent first root : ℕ) →
     ((parent < own) × (above own parent first root ≡ first + parent)) ⊎ (above own parent first root ≡ root)
 above-is own parent first root =
@@ -74,10 +93,10 @@ module _ (s : List ℕ) (l : Layout) where
       let back : l .cards + g - l .cards ≡ g = omega arith in
       rw (le-ltb _ _ past, back)
 
-  pub limit-on : (side g : ℕ) → g < countOf l side → limitOf s l (firstOf l side + g) ≡ groupOf s l side g .limit
-  unfolding limitOf
-  limit-on zero g h = rw (zero-add, lt-ltb _ _ h)
-  limit-on (suc n) g h =
+  pub written-on : (side g : ℕ) → g < countOf l side → writtenOf s l (firstOf l side + g) ≡ groupOf s l side g .limit
+  unfolding writtenOf
+  written-on zero g h = rw (zero-add, lt-ltb _ _ h)
+  written-on (suc n) g h =
       let past : l .cards ≤ l .cards + g = omega arith in
       let back : l .cards + g - l .cards ≡ g = omega arith in
       rw (le-ltb _ _ past, back)
@@ -101,11 +120,6 @@ module _ (s : List ℕ) (l : Layout) where
             rw back at (each 1 (v - l .cards) (omega arith))
       ]
 
-  pub limit-small : ((i : ℕ) → getD s i 0 < 256) → (v : ℕ) → v < groupsOf l → limitOf s l v < 65536
-  limit-small bytes =
-      each-node (λ v. limitOf s l v < 65536)
-      (λ side g h. omega (arith, limit-on side g h, word-small s bytes (startOf l side + groupWidth * g + 2)))
-
   -- the node above a group of a side is an earlier group of that side, or its root
   node-above :
       (side g : ℕ) → g < countOf l side →
@@ -116,6 +130,15 @@ module _ (s : List ℕ) (l : Layout) where
         | inl q ↦ inl (omega (arith, parent-on side g h, q .1), omega (arith, parent-on side g h, q .0, q .1))
         | inr q ↦ inr (parent-on side g h ∙ q)
       ]
+
+  pub day-down : Down (groupsOf l) (parentOf s l)
+  day-down =
+      each-node (λ v. (parentOf s l v < v) ⊎ (groupsOf l ≤ parentOf s l v))
+      (λ side g h.
+      elim (node-above side g h) [
+        | inl q ↦ inl (q .1)
+        | inr q ↦ inr (omega (arith, q, root-past l side))
+      ])
 
   pub sound-formed : Sound s l → Formed (networkOf s l)
   sound-formed sound =
@@ -132,3 +155,91 @@ module _ (s : List ℕ) (l : Layout) where
         card-node = λ c h. inl (omega (arith, card-node c, sound .row-cards c h));
         shop-node = λ c h. inl (omega (arith, shop-node c), omega (arith, shop-node c, sound .row-shops c h));
       }
+
+--------------------------------------------------------------------------------
+-- The limits
+
+module _ (s : List ℕ) (l : Layout) where
+  module _ (side g : ℕ) (inside : g < countOf l side) where
+    abbrev own : ℕ
+    own = firstOf l side + g
+
+    abbrev parent : ℕ
+    parent = groupOf s l side g .parent
+
+    within : own < groupsOf l
+    within = omega (arith, side-room l side)
+
+    pub limit-top : g ≤ parent → limitOf s l own ≡ groupOf s l side g .limit
+    unfolding limitOf
+    limit-top large =
+        let up : parentOf s l own ≡ rootOf l side = parent-on s l side g inside ∙ rw (le-ltb _ _ large) in
+        lowered-top (groupsOf l) (parentOf s l) (day-down s l) (writtenOf s l) own within (omega (arith, up, root-past l side))
+        ∙ written-on s l side g inside
+
+    pub limit-below : parent < g → limitOf s l own ≡ min (groupOf s l side g .limit) (limitOf s l (firstOf l side + parent))
+    unfolding limitOf
+    limit-below small =
+        let up : parentOf s l own ≡ firstOf l side + parent = parent-on s l side g inside ∙ rw (lt-ltb _ _ small) in
+        rw (← up, ← written-on s l side g inside)
+        (lowered-below (groupsOf l) (parentOf s l) (day-down s l) (writtenOf s l) own within (omega (arith, up, side-room l side)))
+
+  pub limit-only :
+      (x : ℕ → ℕ) →
+      ((side g : ℕ) → g < countOf l side →
+      x (firstOf l side + g) ≡ lesser (groupsOf l) (upOf s l side g) (groupOf s l side g .limit) (x (upOf s l side g))) →
+      (v : ℕ) → v < groupsOf l → x v ≡ limitOf s l v
+  unfolding limitOf
+  limit-only x step =
+      lowered-only (groupsOf l) (parentOf s l) (day-down s l) (writtenOf s l) x
+      (each-node s l (λ v. x v ≡ lesser (groupsOf l) (parentOf s l v) (writtenOf s l v) (x (parentOf s l v)))
+      (λ side g h. rw (parent-on s l side g h, written-on s l side g h) (step side g h)))
+
+  limit-le : (v : ℕ) → v < groupsOf l → limitOf s l v ≤ writtenOf s l v
+  unfolding limitOf
+  limit-le = lowered-le (groupsOf l) (parentOf s l) (day-down s l) (writtenOf s l)
+
+  pub limit-small : ((i : ℕ) → getD s i 0 < 256) → (v : ℕ) → v < groupsOf l → limitOf s l v < 65536
+  limit-small bytes v inside =
+      omega (
+        arith,
+        limit-le v inside,
+        each-node s l (λ v. writtenOf s l v < 65536)
+            (λ side g h. omega (arith, written-on s l side g h, word-small s bytes (startOf l side + groupWidth * g + 2)))
+            v inside,
+      )
+
+  pub limit-written : NoneAbove s l → (v : ℕ) → v < groupsOf l → limitOf s l v ≡ writtenOf s l v
+  unfolding limitOf
+  limit-written none =
+      lowered-same (groupsOf l) (parentOf s l) (day-down s l) (writtenOf s l)
+      (each-node s l (λ v. (groupsOf l ≤ parentOf s l v) ⊎ (writtenOf s l v ≤ writtenOf s l (parentOf s l v))) fits)
+    where
+      fits :
+          (side g : ℕ) → g < countOf l side →
+          (groupsOf l ≤ parentOf s l (firstOf l side + g))
+          ⊎ (writtenOf s l (firstOf l side + g) ≤ writtenOf s l (parentOf s l (firstOf l side + g)))
+      fits side g h =
+          elim (above-is g (groupOf s l side g .parent) (firstOf l side) (rootOf l side)) [
+            | inl q ↦
+                let up = parent-on s l side g h ∙ q .1 in
+                inr
+                (rw up
+                (omega (
+                  arith,
+                  none side g h (q .0),
+                  written-on s l side g h,
+                  written-on s l side (groupOf s l side g .parent) (omega arith),
+                )))
+            | inr q ↦ inl (omega (arith, parent-on s l side g h, q, root-past l side))
+          ]
+
+  pub limit-lists : Sound s l → SameLists (writtenDay s l) (instanceOf s l)
+  unfolding limitOf
+  limit-lists sound = lowered-lists (networkOf s l) (sound-formed s l sound) (writtenOf s l) (instanceOf s l .kind)
+
+  pub limit-spare :
+      Sound s l → (X : ℕ → ℕ) (x : ℕ) → x < l .rows →
+      sparePlaces (networkOf s l) (writtenOf s l) X x ≡ sparePlaces (networkOf s l) (limitOf s l) X x
+  unfolding limitOf
+  limit-spare sound X x h = sym (spare-lowered (networkOf s l) (sound-formed s l sound) (writtenOf s l) X x h)

@@ -1,14 +1,17 @@
 -- Laws of the claim file: how the first fault of what is left follows from the next record, one law a case.
 --   tail-is                                      the list behind `&s[a..]`
 --   never                                        a check does not find both no fault and one
---   parent-small parent-top parent-bad           the fault of a group
+--   group-bad group-top group-stored group-above group-new group-below    the fault of a group
 --   no-record record-cut record-fault next-record    the records that are left
+--   records-pass                                 records that lie within the bytes and have no fault
 --   count-cut count-large count-fits count-fine  the fault of a count
 --   section-fault section-fits                   a section by the fault of its count
 --   cards-fault shops-fault claims-fault trailing accepted   the file
-use mathlib.Core.Path.{_≡_, sym, ap}
+use mathlib.Core.Path.{_≡_, refl, sym, ap}
+use mathlib.Core.Bool.{true, false}
+use mathlib.Core.Logic.{inl, inr}
 use mathlib.Core.List.{List}
-use Prim.Native.Nat.{ℕ, suc, _+_, _*_, _-_, _<_, _≤_}
+use Prim.Native.Nat.{ℕ, zero, suc, _+_, _*_, _-_, _<_, _≤_}
 use native.Mathlib.Decide.{decLt}
 use native.Mathlib.Omega.{arith}
 use native.Mathlib.Numerals.{add-one}
@@ -17,9 +20,11 @@ use lib.Seq.{take-all}
 use borrow.Author.Tests.{lt-ltb, le-ltb, eq-eqb, ne-eqb}
 use Rattle.claimfile.specs.File.{top, word, groupFault, recordsFrom}
 use Rattle.claimfile.specs.File.{countFault, sectionOf, sectionBy, sectionAt, claimsAt, reading}
+use Rattle.theory.proofs.TestLaws.{either}
+use Rattle.claimfile.specs.declared.Form.{Form}
 use Rattle.claimfile.specs.declared.Group.{Group}
 use Rattle.claimfile.specs.declared.Refusal.{Refusal}
-use Rattle.claimfile.specs.declared.Refusal.the-variants.{CutOff, Parent, Trailing}
+use Rattle.claimfile.specs.declared.Refusal.the-variants.{CutOff, Parent, Trailing, LimitAbove}
 use Rattle.claimfile.specs.declared.Checked.{Checked}
 use Rattle.claimfile.specs.declared.Checked.the-variants.{Fine, Fault}
 use Rattle.claimfile.specs.declared.Section.the-variants.{Read, Faulty}
@@ -34,20 +39,38 @@ never x why p q =
     let z : _≡_ {A = ℕ} 0 1 = cc in
     absurd (omega arith)
 
--- a smaller parent fits, and so does 65535
-module _ (own : ℕ) (group : Group) where
-  pub parent-small : group .parent < own → groupFault own group ≡ Fine
-  unfolding groupFault
-  parent-small h = rw (lt-ltb _ _ h)
-
-  module _ (h : own ≤ group .parent) where
-    pub parent-top : group .parent ≡ top → groupFault own group ≡ Fine
+-- a smaller parent fits, and so does 65535; a limit above that of a smaller parent is at fault in a new file
+module _ (f : Form) (group : ℕ → Group) (own : ℕ) where
+  module _ (h : own ≤ group own .parent) where
+    pub group-bad : (group own .parent ≡ top → ⊥) → groupFault f group own ≡ Fault Parent
     unfolding groupFault
-    parent-top e = rw (le-ltb _ _ h, eq-eqb _ _ e)
+    group-bad other = rw (le-ltb _ _ h, ne-eqb _ _ other)
 
-    pub parent-bad : (group .parent ≡ top → ⊥) → groupFault own group ≡ Fault Parent
+    pub group-top : group own .parent ≡ top → groupFault f group own ≡ Fine
     unfolding groupFault
-    parent-bad other = rw (le-ltb _ _ h, ne-eqb _ _ other)
+    group-top e = rw (le-ltb _ _ h, eq-eqb _ _ e)
+
+  module _ (h : group own .parent < own) where
+    pub group-stored : f .stored ≡ true → groupFault f group own ≡ Fine
+    unfolding groupFault
+    group-stored e = rw (lt-ltb _ _ h, e)
+
+    pub group-above :
+        f .stored ≡ false → group (group own .parent) .limit < group own .limit → groupFault f group own ≡ Fault LimitAbove
+    unfolding groupFault
+    group-above e more = rw (lt-ltb _ _ h, e, lt-ltb _ _ more)
+
+    pub group-new :
+        f .stored ≡ false → group own .limit ≤ group (group own .parent) .limit → groupFault f group own ≡ Fine
+    unfolding groupFault
+    group-new e less = rw (lt-ltb _ _ h, e, le-ltb _ _ less)
+
+    pub group-below : group own .limit ≤ group (group own .parent) .limit → groupFault f group own ≡ Fine
+    group-below less =
+        elim (either (f .stored)) [
+          | inl e ↦ group-stored e
+          | inr e ↦ group-new e less
+        ]
 
 --------------------------------------------------------------------------------
 -- The records of a section
@@ -81,6 +104,17 @@ module _ (size start width : ℕ) (fault : ℕ → Checked) (count k : ℕ) wher
       next-record e =
           rw (one-less count k h, le-ltb _ _ whole, e)
           (ap (λ (n : ℕ). recordsFrom size start width fault n (count - (k + 1))) (sym (add-one k)))
+
+-- records that lie within the bytes and have no fault
+pub records-pass :
+    (size start width : ℕ) (fault : ℕ → Checked) (count : ℕ) →
+    ((k : ℕ) → k < count → start + width * k + width ≤ size) → ((k : ℕ) → k < count → fault k ≡ Fine) →
+    (left k : ℕ) → k + left ≡ count → recordsFrom size start width fault k left ≡ Fine
+unfolding recordsFrom
+records-pass size start width fault count whole fine zero k e = refl
+records-pass size start width fault count whole fine (suc left) k e =
+    rw (le-ltb _ _ (whole k (omega arith)), fine k (omega arith))
+    (records-pass size start width fault count whole fine left (suc k) (omega arith))
 
 --------------------------------------------------------------------------------
 -- The sections
@@ -125,29 +159,29 @@ module _ (s : List ℕ) (at most : ℕ) (over : Refusal) where
 --------------------------------------------------------------------------------
 -- The file
 
-module _ (s : List ℕ) where
-  pub cards-fault : (why : Refusal) → sectionAt s 0 ≡ Faulty why → reading s ≡ Refused why
+module _ (f : Form) (s : List ℕ) where
+  pub cards-fault : (why : Refusal) → sectionAt f s 0 ≡ Faulty why → reading f s ≡ Refused why
   unfolding reading
   cards-fault why e = rw e
 
-  module _ (cards cardAt next : ℕ) (cards-read : sectionAt s 0 ≡ Read cards cardAt next) where
-    pub shops-fault : (why : Refusal) → sectionAt s next ≡ Faulty why → reading s ≡ Refused why
+  module _ (cards cardAt next : ℕ) (cards-read : sectionAt f s 0 ≡ Read cards cardAt next) where
+    pub shops-fault : (why : Refusal) → sectionAt f s next ≡ Faulty why → reading f s ≡ Refused why
     unfolding reading
     shops-fault why e = rw (cards-read, e)
 
-    module _ (shops shopAt after : ℕ) (shops-read : sectionAt s next ≡ Read shops shopAt after) where
-      pub claims-fault : (why : Refusal) → claimsAt s after cards shops ≡ Faulty why → reading s ≡ Refused why
+    module _ (shops shopAt after : ℕ) (shops-read : sectionAt f s next ≡ Read shops shopAt after) where
+      pub claims-fault : (why : Refusal) → claimsAt s after cards shops ≡ Faulty why → reading f s ≡ Refused why
       unfolding reading
       claims-fault why e = rw (cards-read, shops-read, e)
 
       module _ (rows rowAt end : ℕ) (claims-read : claimsAt s after cards shops ≡ Read rows rowAt end) where
-        pub trailing : end < length s → reading s ≡ Refused Trailing
+        pub trailing : end < length s → reading f s ≡ Refused Trailing
         unfolding reading
         trailing h = rw (cards-read, shops-read, claims-read, lt-ltb _ _ h)
 
         pub accepted :
             length s ≤ end →
-            reading s
+            reading f s
             ≡ Accepted
             (record {
               cards = cards;

@@ -4,4 +4,5 @@ pub mod AcceptedLaws
 pub mod DayLaws
 pub mod PutLaws
 pub mod WrittenLaws
+pub mod StoredLaws
 pub mod BegunLaws

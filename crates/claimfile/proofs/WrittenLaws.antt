@@ -17,13 +17,14 @@ use native.Mathlib.Omega.{arith}
 use lib.ListN.{length, getD, take, drop, length-append, length-drop}
 use borrow.Author.Tests.{le-ltb, lt-leb}
 use Rattle.theory.specs.Bounds.{maxGroups, maxRows}
-use Rattle.claimfile.specs.File.{groupWidth, claimWidth, word, groupAt, claimAt, groupFault, claimFault, recordsFrom}
+use Rattle.claimfile.specs.File.{newFile, groupWidth, claimWidth, word, groupAt, claimAt, groupFault, claimFault}
 use Rattle.claimfile.specs.File.{sectionBy, sectionAt, claimsAt, reading}
 use Rattle.claimfile.specs.Day.{startOf, groupOf, claims, claimOf}
 use Rattle.claimfile.specs.Sound.{SmallerOrTop, Sound}
 use Rattle.claimfile.specs.Written.{Contents, recordsOn, bytesOf, groupBytes, claimBytes, records, section, fileBytes}
 use Rattle.claimfile.specs.Written.{layoutOf, lengthOf, TwoSided, Proper, SameContents}
 use Rattle.claimfile.specs.Put.{Holds, countPlace, rowCountPlace, groupPlace, claimPlace, Begun}
+use Rattle.claimfile.specs.declared.Form.{Form}
 use Rattle.claimfile.specs.declared.Refusal.{Refusal}
 use Rattle.claimfile.specs.declared.Refusal.the-variants.{GroupCount, ClaimCount}
 use Rattle.claimfile.specs.declared.Checked.{Checked}
@@ -33,7 +34,7 @@ use Rattle.claimfile.specs.declared.Reading.the-variants.{Accepted}
 use Rattle.claimfile.specs.declared.Layout.{Layout}
 use Rattle.claimfile.specs.declared.Group.{Group}
 use Rattle.claimfile.specs.declared.Claim.{Claim}
-use Rattle.claimfile.proofs.FileLaws.{parent-small, parent-top, count-fits, section-fits, accepted}
+use Rattle.claimfile.proofs.FileLaws.{group-top, group-below, records-pass, count-fits, section-fits, accepted}
 use Rattle.claimfile.proofs.AcceptedLaws.{one-layout, accepted-sound}
 use Rattle.claimfile.proofs.PutLaws.{same-cell, holds-self, holds-take, holds-drop}
 use Rattle.claimfile.proofs.PutLaws.{holds-first, holds-second, holds-append}
@@ -108,17 +109,6 @@ section-bytes :
 unfolding section
 section-bytes n f l h = bytes-append (bytesOf n) (records n f) (bytes-word n l) (bytes-records n f h)
 
--- records that lie within the bytes and have no fault
-records-pass :
-    (size start width : ℕ) (fault : ℕ → Checked) (count : ℕ) →
-    ((k : ℕ) → k < count → start + width * k + width ≤ size) → ((k : ℕ) → k < count → fault k ≡ Fine) →
-    (left k : ℕ) → k + left ≡ count → recordsFrom size start width fault k left ≡ Fine
-unfolding recordsFrom
-records-pass size start width fault count whole fine zero k e = refl
-records-pass size start width fault count whole fine (suc left) k e =
-    rw (le-ltb _ _ (whole k (omega arith)), fine k (omega arith))
-    (records-pass size start width fault count whole fine left (suc k) (omega arith))
-
 -- a section with a small count and records without a fault
 section-passes :
     (s : List ℕ) (at most : ℕ) (over : Refusal) (width : ℕ) (checked : Checked) (n start next : ℕ) → at + 2 ≤ length s →
@@ -128,12 +118,17 @@ section-passes s at most over width checked n start next whole count small fine 
     section-fits s at most over width checked (count-fits s at most over whole (omega arith))
     ∙ rw (fine, count, after, e)
 
-group-passes : (own : ℕ) (group : Group) → SmallerOrTop own (group .parent) → groupFault own group ≡ Fine
-group-passes own group (inl small) = parent-small own group small
-group-passes own group (inr is) =
-    elim (decLt (group .parent) own) [
-      | yes small ↦ parent-small own group small
-      | no h ↦ parent-top own group (omega arith) is
+pub group-passes :
+    (f : Form) (group : ℕ → Group) (own : ℕ) → SmallerOrTop own (group own .parent) →
+    (group own .parent < own → group own .limit ≤ group (group own .parent) .limit) → groupFault f group own ≡ Fine
+group-passes f group own parent limit =
+    elim (decLt (group own .parent) own) [
+      | yes small ↦ group-below f group own small (limit small)
+      | no h ↦
+          elim parent [
+            | inl small ↦ absurd (h small)
+            | inr is ↦ group-top f group own (omega arith) is
+          ]
     ]
 
 claim-passes :
@@ -277,21 +272,32 @@ module _ (d : Contents) where
     within zero = omega (arith, written-length)
     within (suc n) = omega (arith, written-length)
 
+    -- the record of a group, read back, has no fault
+    group-fits : (f : Form) (side g : ℕ) → g < recordsOn d side → groupFault f (groupOf s l side) g ≡ Fine
+    group-fits f side g h =
+        let back : (i : ℕ) → i < recordsOn d side → groupOf s l side i ≡ d .group side i = written-group (proper .sides) side in
+        let up = ap (λ (x : Group). x .parent) (back g h) in
+        group-passes f (groupOf s l side) g (subst (SmallerOrTop g) (sym up) (proper .parents side g h))
+        (λ small.
+        omega (
+          arith,
+          proper .below side g h (omega arith),
+          ap (λ (x : Group). x .limit) (back g h),
+          ap (λ (x : Group). x .limit) (back (groupOf s l side g .parent) (omega arith)),
+          ap (λ i. d .group side i .limit) up,
+        ))
+
     groups-read :
-        (side next : ℕ) → next ≡ startOf l side + groupWidth * recordsOn d side →
-        sectionAt s (countPlace l side) ≡ Read (recordsOn d side) (startOf l side) next
+        (f : Form) (side next : ℕ) → next ≡ startOf l side + groupWidth * recordsOn d side →
+        sectionAt f s (countPlace l side) ≡ Read (recordsOn d side) (startOf l side) next
     unfolding sectionAt
-    groups-read side next after =
+    groups-read f side next after =
         let count = word-back s (countPlace l side) (recordsOn d side) (written-count side) in
         section-passes s (countPlace l side) maxGroups GroupCount groupWidth _ (recordsOn d side) (startOf l side) next
         (omega (arith, within side, start-behind side)) count (most side)
         (rw (← start-behind side, count)
-        (records-pass (length s) (startOf l side) groupWidth (λ g. groupFault g (groupOf s l side g)) (recordsOn d side)
-        (λ g h. omega (arith, within side))
-        (λ g h.
-        ap (groupFault g) (written-group (proper .sides) side g h)
-        ∙ group-passes g (d .group side g) (proper .parents side g h))
-        (recordsOn d side) 0 (omega arith)))
+        (records-pass (length s) (startOf l side) groupWidth (groupFault f (groupOf s l side)) (recordsOn d side)
+        (λ g h. omega (arith, within side)) (group-fits f side) (recordsOn d side) 0 (omega arith)))
         (start-behind side) after
 
     rows-read : claimsAt s (rowCountPlace l) (d .cards) (d .shops) ≡ Read (d .rows) (l .«row_at») (lengthOf d)
@@ -310,14 +316,14 @@ module _ (d : Contents) where
         (d .rows) 0 (omega arith)))
         rows-behind (omega arith)
 
-    pub written-accepted : reading (fileBytes d) ≡ Accepted (layoutOf d)
-    written-accepted =
-        accepted s (d .cards) 2 (countPlace l 1) (groups-read 0 (countPlace l 1) (omega arith)) (d .shops) (startOf l 1)
-        (rowCountPlace l) (groups-read 1 (rowCountPlace l) (omega arith)) (d .rows) (l .«row_at») (lengthOf d) rows-read
+    pub written-accepted : (f : Form) → reading f (fileBytes d) ≡ Accepted (layoutOf d)
+    written-accepted f =
+        accepted f s (d .cards) 2 (countPlace l 1) (groups-read f 0 (countPlace l 1) (omega arith)) (d .shops) (startOf l 1)
+        (rowCountPlace l) (groups-read f 1 (rowCountPlace l) (omega arith)) (d .rows) (l .«row_at») (lengthOf d) rows-read
         (omega (arith, written-length))
 
     pub written-sound : Sound (fileBytes d) (layoutOf d)
-    written-sound = accepted-sound s l written-accepted
+    written-sound = accepted-sound newFile s l (written-accepted newFile)
 
     parent-below : (side g : ℕ) → g < recordsOn d side → d .group side g .parent < 65536
     parent-below side g h =
@@ -371,8 +377,8 @@ module _ (d e : Contents) where
   module _ (of-d : Proper d) (of-e : Proper e) (same : fileBytes d ≡ fileBytes e) where
     layout-same : layoutOf d ≡ layoutOf e
     layout-same =
-        one-layout (reading (fileBytes d)) (layoutOf d) (layoutOf e) (written-accepted d of-d)
-        (ap reading same ∙ written-accepted e of-e)
+        one-layout (reading newFile (fileBytes d)) (layoutOf d) (layoutOf e) (written-accepted d of-d newFile)
+        (ap (reading newFile) same ∙ written-accepted e of-e newFile)
 
     count-same : (side : ℕ) → recordsOn d side ≡ recordsOn e side
     count-same zero = ap (λ (x : Layout). x .cards) layout-same

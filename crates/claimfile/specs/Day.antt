@@ -10,9 +10,11 @@
 --   rootOf l side          the node over the tops of a side: the source, node `groups`, or the sink, node `groups + 1`
 --   above own parent first root    the node above a group of a section
 --   upOf s l side g        the node above group g of a side
---   parentOf, limitOf      a group's parent and limit, by its node
+--   parentOf, writtenOf    a group's parent and the limit in its record, by its node
+--   limitOf                what its limit is: the written one, lowered from the front
 --   cardNode, shopNode     where a row hangs on each side
 --   networkOf, instanceOf  all of these together
+--   writtenDay             the same day with the limits as they are written
 -- The group that a row names and the node where it hangs are two things; so are a record's limit and the meaning of a limit.
 use Prim.Native.Nat.{ℕ, zero, suc, _+_, _-_}
 use mathlib.Core.List.{List}
@@ -20,6 +22,7 @@ use lib.ListN.{drop}
 use lib.Dec.{ltb}
 use Rattle.theory.specs.Sum.{pick}
 use Rattle.theory.specs.Network.{Network, Instance}
+use Rattle.theory.specs.Lowered.{lowered}
 use Rattle.claimfile.specs.declared.Layout.{Layout}
 use Rattle.claimfile.specs.declared.Group.{Group}
 use Rattle.claimfile.specs.declared.Claim.{Claim}
@@ -75,9 +78,14 @@ upOf s l side g = above g (groupOf s l side g .parent) (firstOf l side) (rootOf 
 unfoldable pub parentOf : List ℕ → Layout → ℕ → ℕ
 parentOf s l v = pick (ltb v (l .cards)) (upOf s l 0 v) (upOf s l 1 (v - l .cards))
 
--- what a limit means: the number in the group's record
+-- the number in the group's record
+unfoldable pub writtenOf : List ℕ → Layout → ℕ → ℕ
+writtenOf s l v = pick (ltb v (l .cards)) (groupOf s l 0 v .limit) (groupOf s l 1 (v - l .cards) .limit)
+
+-- what a limit means: "each limit above its parent's, already lowered, one" is read as that one. A new file has no such limit, and its
+-- limits are the written ones (`new-limits`, proofs/StoredLaws.antt)
 unfoldable pub limitOf : List ℕ → Layout → ℕ → ℕ
-limitOf s l v = pick (ltb v (l .cards)) (groupOf s l 0 v .limit) (groupOf s l 1 (v - l .cards) .limit)
+limitOf s l v = lowered (groupsOf l) (parentOf s l) (writtenOf s l) v
 
 -- where a row hangs on the card side: the group that it names
 unfoldable pub cardNode : List ℕ → Layout → ℕ → ℕ
@@ -98,3 +106,6 @@ networkOf s l = record {
 
 abbrev pub instanceOf : List ℕ → Layout → Instance
 instanceOf s l = record { net = networkOf s l; limit = limitOf s l; kind = kindOf s l }
+
+abbrev pub writtenDay : List ℕ → Layout → Instance
+writtenDay s l = record { net = networkOf s l; limit = writtenOf s l; kind = kindOf s l }

@@ -1,4 +1,5 @@
 -- The claim file of document 01, "The claim file" and "Turned-away files": what any list of bytes is, accepted or refused.
+--   newFile, storedFile    how a call takes a new file, and one that was stored before limits were judged
 --   top                    the parent of a group at the top, which is the greatest number of 16 bits
 --   groupWidth claimWidth  how many bytes a group record and a claim record have
 --   word s at              the 16-bit number at a place, low byte first; a byte past the end is 0
@@ -6,7 +7,9 @@
 --   claimAt r c            the claim record c of a claims section r, given from its first record on: card group, shop group, kind
 --   orElse x y             the first fault of two checks
 --   parentFits own parent  whether a group with its own number may have that parent
---   groupFault own group   the first fault of a group's fields
+--   parentFault own group  the fault of a group's parent
+--   limitFault f limit most    the fault of a limit whose parent's is `most`: none is judged in a stored file
+--   groupFault f group own the first fault of the fields of a group, where `group` has the records of its section
 --   claimFault claim cards shops   the first fault of a claim's fields
 --   recordsFrom size start width fault k left   the first fault of the records that are left from record k on, where the first
 --                          record starts at `start` of `size` bytes, each has `width` of them, and `fault` is that of its fields
@@ -17,18 +20,22 @@
 --   sectionAt, claimsAt    the group section and the claims section whose count stands at a place
 --   refusedBy section      the reading of a file with a faulty section
 --   afterCards, afterShops, afterClaims     the reading of a file, by the section that was read last
---   reading s              the file: accepted with its layout, or refused by the first fault met
+--   reading f s            the file: accepted with its layout, or refused by the first fault met
 -- "The file is read from the front and the first fault met is the one told. A count is judged before its records, a record must
 -- be whole before its fields are judged, and fields are judged in order (card group, shop group, kind)."
+-- Document 02, E4: "11, a group's limit is above its parent's, judged on the same record after 3, and not by the calls for stored
+-- files."
 use Prim.Native.Nat.{ℕ, zero, suc, _+_, _*_}
 use mathlib.Core.List.{List}
-use mathlib.Core.Bool.{Bool, true}
+use mathlib.Core.Bool.{Bool, true, false}
 use lib.ListN.{length, getD, drop}
 use lib.Dec.{ltb, leb, eqb}
 use Rattle.theory.specs.Bounds.{maxGroups, maxRows, maxLimit}
 use Rattle.theory.specs.Sum.{pick}
+use Rattle.claimfile.specs.declared.Form.{Form}
 use Rattle.claimfile.specs.declared.Refusal.{Refusal}
-use Rattle.claimfile.specs.declared.Refusal.the-variants.{CutOff, GroupCount, Parent, ClaimCount, NoSuchGroup, Kind, Trailing}
+use Rattle.claimfile.specs.declared.Refusal.the-variants.{CutOff, GroupCount, Parent, ClaimCount, NoSuchGroup}
+use Rattle.claimfile.specs.declared.Refusal.the-variants.{Kind, Trailing, LimitAbove}
 use Rattle.claimfile.specs.declared.Checked.{Checked}
 use Rattle.claimfile.specs.declared.Checked.the-variants.{Fine, Fault}
 use Rattle.claimfile.specs.declared.Section.{Section}
@@ -37,6 +44,12 @@ use Rattle.claimfile.specs.declared.Reading.{Reading}
 use Rattle.claimfile.specs.declared.Reading.the-variants.{Accepted, Refused}
 use Rattle.claimfile.specs.declared.Group.{Group}
 use Rattle.claimfile.specs.declared.Claim.{Claim}
+
+abbrev pub newFile : Form
+newFile = record { stored = false }
+
+abbrev pub storedFile : Form
+storedFile = record { stored = true }
 
 abbrev pub top : ℕ
 top = maxLimit
@@ -72,8 +85,18 @@ abbrev pub parentFits : ℕ → ℕ → Bool
 parentFits own parent = pick (ltb parent own) true (eqb parent top)
 
 -- refusal 3
-unfoldable pub groupFault : ℕ → Group → Checked
-groupFault own group = pick (parentFits own (group .parent)) Fine (Fault Parent)
+abbrev pub parentFault : ℕ → Group → Checked
+parentFault own group = pick (parentFits own (group .parent)) Fine (Fault Parent)
+
+-- refusal 11
+abbrev pub limitFault : Form → ℕ → ℕ → Checked
+limitFault f limit most = pick (f .stored) Fine (pick (ltb most limit) (Fault LimitAbove) Fine)
+
+-- 3, then 11 on the same record; a group at the top has no parent whose limit could be passed
+unfoldable pub groupFault : Form → (ℕ → Group) → ℕ → Checked
+groupFault f group own =
+    orElse (parentFault own (group own))
+    (pick (ltb (group own .parent) own) (limitFault f (group own .limit) (group (group own .parent) .limit)) Fine)
 
 -- refusals 5 and 6: the fields of one claim in order
 unfoldable pub claimFault : Claim → ℕ → ℕ → Checked
@@ -90,8 +113,8 @@ recordsFrom size start width fault k (suc left) =
     (Fault CutOff)
     (orElse (fault k) (recordsFrom size start width fault (suc k) left))
 
-abbrev pub groupsFrom : List ℕ → ℕ → ℕ → ℕ → Checked
-groupsFrom s start = recordsFrom (length s) start groupWidth (λ g. groupFault g (groupAt s start g))
+abbrev pub groupsFrom : Form → List ℕ → ℕ → ℕ → ℕ → Checked
+groupsFrom f s start = recordsFrom (length s) start groupWidth (groupFault f (groupAt s start))
 
 abbrev pub rowsFrom : List ℕ → ℕ → ℕ → ℕ → ℕ → Checked
 rowsFrom r cards shops = recordsFrom (length r) 0 claimWidth (λ c. claimFault (claimAt r c) cards shops)
@@ -112,8 +135,8 @@ abbrev pub sectionBy : List ℕ → ℕ → ℕ → Refusal → ℕ → Checked 
 sectionBy s at most over width checked = sectionOf (orElse (countFault s at most over) checked) (word s at) (at + 2) width
 
 -- one definition for cards and for shops
-unfoldable pub sectionAt : List ℕ → ℕ → Section
-sectionAt s at = sectionBy s at maxGroups GroupCount groupWidth (groupsFrom s (at + 2) 0 (word s at))
+unfoldable pub sectionAt : Form → List ℕ → ℕ → Section
+sectionAt f s at = sectionBy s at maxGroups GroupCount groupWidth (groupsFrom f s (at + 2) 0 (word s at))
 
 -- the records are "the part of the file that starts at its first record"
 unfoldable pub claimsAt : List ℕ → ℕ → ℕ → ℕ → Section
@@ -147,9 +170,9 @@ abbrev pub afterShops : List ℕ → ℕ → ℕ → Section → Reading
 afterShops s cards cardAt (Read shops shopAt next) = afterClaims s cards shops cardAt shopAt (claimsAt s next cards shops)
 afterShops s cards cardAt (Faulty why) = Refused why
 
-abbrev pub afterCards : List ℕ → Section → Reading
-afterCards s (Read cards cardAt next) = afterShops s cards cardAt (sectionAt s next)
-afterCards s (Faulty why) = Refused why
+abbrev pub afterCards : Form → List ℕ → Section → Reading
+afterCards f s (Read cards cardAt next) = afterShops s cards cardAt (sectionAt f s next)
+afterCards f s (Faulty why) = Refused why
 
-unfoldable pub reading : List ℕ → Reading
-reading s = afterCards s (sectionAt s 0)
+unfoldable pub reading : Form → List ℕ → Reading
+reading f s = afterCards f s (sectionAt f s 0)

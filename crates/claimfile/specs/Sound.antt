@@ -1,6 +1,7 @@
--- What holds of every accepted file (`accepted-sound`), and what the functions on an accepted file ask.
+-- What holds of every accepted file, new or stored (`accepted-sound`), and what the functions on an accepted file ask.
 --   SmallerOrTop own parent    a group with its own number may have that parent
 --   Sound s l              the file s has the layout l, its sizes are within bounds, and every field is in range
+--   NoneAbove s l          what holds of every new file besides (`new-below`): no group's limit is above its parent's
 use Prim.Native.Nat.{ℕ, _+_, _*_, _<_, _≤_}
 use mathlib.Core.Path.{_≡_}
 use mathlib.Core.Logic.{_⊎_}
@@ -27,3 +28,8 @@ pub record Sound (s : List ℕ) (l : Layout) : Type 0 where
   pub row-cards : (c : ℕ) → c < l .rows → namedCard s l c < l .cards
   pub row-shops : (c : ℕ) → c < l .rows → namedShop s l c < l .shops
   pub row-kinds : (c : ℕ) → c < l .rows → kindOf s l c ≤ 1
+
+abbrev pub NoneAbove : List ℕ → Layout → Type 0
+NoneAbove s l =
+    (side g : ℕ) → g < countOf l side → groupOf s l side g .parent < g →
+    groupOf s l side g .limit ≤ groupOf s l side (groupOf s l side g .parent) .limit

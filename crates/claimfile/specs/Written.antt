@@ -12,7 +12,8 @@
 --   lengthFor cards shops rows     how many bytes it has
 --   layoutOf d, lengthOf d the same for the file of these contents
 --   TwoSided d             every side but 0 is the shop side: its groups are those of side 1
---   Proper d               so it is, the counts are within bounds and every field is in range, so that a file may hold this
+--   Proper d               so it is, the counts are within bounds, every field is in range and no group's limit is above its parent's, so
+--                          that a new file may hold this
 --   SameContents d e       the same counts, and the same record of each group and of each claim
 -- "Three sections in fixed order, each after its count. Every count and field is unsigned and 16 bits wide, low byte first, except
 -- the kind, which is one byte."
@@ -89,6 +90,9 @@ pub record Proper (d : Contents) : Type 0 where
   pub rows-most : d .rows ≤ maxRows
   pub parents : (side g : ℕ) → g < recordsOn d side → SmallerOrTop g (d .group side g .parent)
   pub limits : (side g : ℕ) → g < recordsOn d side → d .group side g .limit ≤ maxLimit
+  pub below :
+      (side g : ℕ) → g < recordsOn d side → d .group side g .parent < g →
+      d .group side g .limit ≤ d .group side (d .group side g .parent) .limit
   pub claim-cards : (c : ℕ) → c < d .rows → d .claim c .card < d .cards
   pub claim-shops : (c : ℕ) → c < d .rows → d .claim c .shop < d .shops
   pub claim-kinds : (c : ℕ) → c < d .rows → d .claim c .kind ≤ 1

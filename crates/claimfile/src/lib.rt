@@ -1,8 +1,8 @@
 // The claim file: its sections, the first fault in it, and its records.
 //
-// `read` takes any bytes and says whether they are an accepted file, with its counts and the places of its sections, or why they
-// are refused. `group_of` and `claim_of` read one record of an accepted file. The functions of `write` put counts and records
-// into a lent buffer. No other crate knows how wide a record is or where its fields are.
+// `read` takes any bytes, as a new file or as a stored one, and says whether they are an accepted file, with its counts and the places
+// of its sections, or why they are refused. `group_of` and `claim_of` read one record of an accepted file. The functions of `write` put
+// counts and records into a lent buffer. No other crate knows how wide a record is or where its fields are.
 pub mod write;
 
 ghost use mathlib.Core.Path.{_≡_};
@@ -24,7 +24,14 @@ const GROUP_WIDTH: usize = 4;
 // How many bytes a claim record has: card group, shop group, kind.
 const CLAIM_WIDTH: usize = 5;
 
-// Why a file is turned away: numbers 1 to 7 of document 01, in its order.
+// How a call takes its file.
+pub struct Form {
+    // a file that was stored before limits were judged, whose limits are lowered; else a new one, in which none may be above its
+    // parent's
+    pub stored: bool,
+}
+
+// Why a file is turned away: numbers 1 to 7 of document 01, in its order, and 11 of document 02.
 pub enum Refusal {
     CutOff,
     GroupCount,
@@ -33,6 +40,7 @@ pub enum Refusal {
     NoSuchGroup,
     Kind,
     Trailing,
+    LimitAbove,
 }
 
 // What the records of a section hold: no fault, or the first one.
@@ -116,14 +124,24 @@ fn claim_at(rows: &[u8], c: usize) -> Claim
     }
 }
 
-// The first fault of the fields of the group with number `own`.
-fn check_group(own: usize, group: Group) -> Checked
-    ensures { λ r. ⌜ r ≡ groupFault own group ⌝ }
+// The first fault of the fields of the group record with number `own`: its parent, and then, in a new file, its limit.
+fn check_group(file: &[u8], form: Form, start: usize, own: usize) -> Checked
+    requires { ⌜ start + groupWidth * own + groupWidth ≤ length (now file) ⌝ }
+    ensures { λ r. ⌜ r ≡ groupFault form (groupAt (now (file .entry)) start) own ⌝ }
 {
+    let group = group_at(file, start, own);
     if own <= group.parent {
         if group.parent != TOP {
             return Checked::Fault(Refusal::Parent);
         }
+        return Checked::Fine;
+    }
+    if form.stored {
+        return Checked::Fine;
+    }
+    let parent = group_at(file, start, group.parent);
+    if parent.limit < group.limit {
+        return Checked::Fault(Refusal::LimitAbove);
     }
     Checked::Fine
 }
@@ -145,16 +163,16 @@ fn check_claim(claim: Claim, cards: usize, shops: usize) -> Checked
 }
 
 // The first fault of the group records that start at `start`.
-fn check_groups(file: &[u8], start: usize, count: usize) -> Checked
+fn check_groups(file: &[u8], form: Form, start: usize, count: usize) -> Checked
     requires { ⌜ (start ≤ length (now file)) × (count ≤ maxGroups) ⌝ }
-    ensures { λ r. ⌜ r ≡ groupsFrom (now (file .entry)) start 0 count ⌝ }
+    ensures { λ r. ⌜ r ≡ groupsFrom form (now (file .entry)) start 0 count ⌝ }
 {
     let mut own = 0;
     while own < count {
         if file.len() - start < GROUP_WIDTH * own + GROUP_WIDTH {
             return Checked::Fault(Refusal::CutOff);
         }
-        let checked = check_group(own, group_at(file, start, own));
+        let checked = check_group(file, form, start, own);
         let Checked::Fine = checked else {
             return checked;
         };
@@ -215,8 +233,8 @@ fn section_of(checked: Checked, count: usize, start: usize, width: usize) -> Sec
 }
 
 // The group section, of cards or of shops, whose count stands at `at`.
-fn read_groups(file: &[u8], at: usize) -> Section
-    ensures { λ r. ⌜ r ≡ sectionAt (now (file .entry)) at ⌝ }
+fn read_groups(file: &[u8], form: Form, at: usize) -> Section
+    ensures { λ r. ⌜ r ≡ sectionAt form (now (file .entry)) at ⌝ }
 {
     let counted = check_count(file, at, MAX_GROUPS, Refusal::GroupCount);
     let Checked::Fine = counted else {
@@ -224,7 +242,12 @@ fn read_groups(file: &[u8], at: usize) -> Section
     };
     let count = u16_at(file, at);
     let start = at + 2;
-    section_of(check_groups(file, start, count), count, start, GROUP_WIDTH)
+    section_of(
+        check_groups(file, form, start, count),
+        count,
+        start,
+        GROUP_WIDTH,
+    )
 }
 
 // The claims section whose count stands at `at`.
@@ -260,10 +283,10 @@ fn refused_by(section: Section) -> Reading
 }
 
 // Reads a file from the front: accepted with its layout, or refused by the first fault met.
-pub fn read(file: &[u8]) -> Reading
-    ensures { λ r. ⌜ r ≡ reading (now (file .entry)) ⌝ }
+pub fn read(file: &[u8], form: Form) -> Reading
+    ensures { λ r. ⌜ r ≡ reading form (now (file .entry)) ⌝ }
 {
-    let card_section = read_groups(file, 0);
+    let card_section = read_groups(file, form, 0);
     let Section::Read {
         count: cards,
         start: card_at,
@@ -272,7 +295,7 @@ pub fn read(file: &[u8]) -> Reading
     else {
         return refused_by(card_section);
     };
-    let shop_section = read_groups(file, after_cards);
+    let shop_section = read_groups(file, form, after_cards);
     let Section::Read {
         count: shops,
         start: shop_at,

@@ -1,13 +1,13 @@
 // The writing half: the layout for given counts, and the counts and records put at their places in a lent buffer.
 //
-// The counts are put once; records may be put in any order. A buffer that has them all starts with the file
-// (`written-cells`, proofs/WrittenLaws.antt).
+// The counts are put once; records may be put in any order, and a group that was put can be read back. A buffer that has them all
+// starts with the file (`written-cells`, proofs/WrittenLaws.antt).
 ghost use mathlib.Core.Path.{_≡_};
 ghost use Prim.Native.Nat.{_+_, _<_, _≤_};
 ghost use mathlib.Core.List.{_++_};
 ghost use lib.ListN.{length};
 ghost use Rattle.theory.specs.Bounds.{maxGroups, maxRows};
-ghost use Rattle.claimfile.specs.Day.{countOf};
+ghost use Rattle.claimfile.specs.Day.{countOf, groupOf};
 ghost use Rattle.claimfile.specs.Written.{bytesOf, groupBytes, claimBytes, layoutFor, lengthFor};
 ghost use Rattle.claimfile.specs.Put.{Put, groupPlace, claimPlace, Laid, Room, CountsPut};
 use super::CLAIM_WIDTH;
@@ -15,6 +15,7 @@ use super::Claim;
 use super::GROUP_WIDTH;
 use super::Group;
 use super::Layout;
+use super::group_at;
 use super::start_of;
 
 // The layout of a file with so many card groups, shop groups and claims.
@@ -75,6 +76,14 @@ pub fn put_group(layout: Layout, side: usize, g: usize, group: Group, out: &mut 
 {
     let at = start_of(layout, side) + GROUP_WIDTH * g;
     put_pair(at, group.parent, group.limit, out);
+}
+
+// The record that stands at the place of group `g` of a side.
+pub fn group_put(layout: Layout, side: usize, g: usize, out: &[u8]) -> Group
+    requires { ⌜ (Room layout (now out)) × (g < countOf layout side) ⌝ }
+    ensures { λ r. ⌜ (r ≡ groupOf (now (out .entry)) layout side g) × (r .parent < 65536) × (r .limit < 65536) ⌝ }
+{
+    group_at(out, start_of(layout, side), g)
 }
 
 // Puts the record of row `c`.

@@ -15,6 +15,7 @@ use casebook::files::EXAMPLE_5;
 use casebook::files::EXAMPLE_6;
 use casebook::files::EXAMPLE_7;
 use casebook::files::put;
+use casebook::files::put_group;
 use casebook::files::space;
 use casebook::line::number;
 use casebook::line::text;
@@ -23,6 +24,7 @@ use records::records;
 use tell::beginnings;
 use tell::show;
 use tell::show_first;
+use tell::show_stored;
 
 // A 16-bit number that is stored at a place of a file. A kind is one byte; the byte behind it is 0 in the edited file.
 struct Edit {
@@ -30,8 +32,13 @@ struct Edit {
     to: usize,
 }
 
-// The edited file has 3 card groups, 3 shop groups and 2 claims: these are some places in it and its length.
+// The edited file has 3 card groups, 3 shop groups and 2 claims, each group at the top with limit 1: these are some places in it and its
+// length.
+const CARD_1: usize = 6;
+
 const CARD_PARENT: usize = 10;
+
+const SHOP_1: usize = 20;
 
 const SHOP_PARENT: usize = 24;
 
@@ -175,6 +182,49 @@ fn too_long() {
     edited(b"no fault, a byte more", NONE, NONE, 41);
 }
 
+// The file with another record of a group, as a new file and as a stored one.
+fn regrouped(name: &[u8], at: usize, parent: usize, limit: usize, n: usize) {
+    let mut buf = space();
+    day(3, 3, 2, &mut buf);
+    put_group(at, parent, limit, &mut buf);
+    show_first(name, &buf, n);
+    show_stored(name, &buf, n);
+}
+
+// Limits on both sides of the parent's, which is 1.
+fn limits() {
+    regrouped(b"card group 1, limit 1 in 1", CARD_1, 0, 1, LENGTH);
+    regrouped(b"card group 1, limit 2 in 1", CARD_1, 0, 2, LENGTH);
+    regrouped(b"card group 2, limit 2 in 1", CARD_PARENT, 1, 2, LENGTH);
+    regrouped(
+        b"card group 2, limit 65535 in 1",
+        CARD_PARENT,
+        0,
+        65535,
+        LENGTH,
+    );
+    regrouped(
+        b"card group 2, limit 65535 at the top",
+        CARD_PARENT,
+        TOP,
+        65535,
+        LENGTH,
+    );
+    regrouped(b"shop group 1, limit 0 in 1", SHOP_1, 0, 0, LENGTH);
+    regrouped(b"shop group 1, limit 256 in 1", SHOP_1, 0, 256, LENGTH);
+    regrouped(b"shop group 2, limit 2 in 1", SHOP_PARENT, 1, 2, LENGTH);
+    regrouped(
+        b"card group 1, its own parent, limit 2",
+        CARD_1,
+        1,
+        2,
+        LENGTH,
+    );
+    regrouped(b"limit 2 in 1, cut in its record", CARD_1, 0, 2, 9);
+    regrouped(b"limit 2 in 1, cut behind it", CARD_1, 0, 2, 10);
+    regrouped(b"limit 2 in 1, a byte more", CARD_1, 0, 2, 41);
+}
+
 // Records with limits of one and of two bytes, a parent that is a group and one at the top, and both kinds.
 fn all_records() {
     records(
@@ -199,5 +249,6 @@ fn main() {
     cut_off();
     two_faults();
     too_long();
+    limits();
     all_records();
 }

@@ -3,6 +3,7 @@ use casebook::line::number;
 use casebook::line::refused;
 use casebook::line::text;
 use claimfile::Claim;
+use claimfile::Form;
 use claimfile::Group;
 use claimfile::Layout;
 use claimfile::Reading;
@@ -58,9 +59,9 @@ fn claims(file: &[u8], layout: Layout)
     }
 }
 
-// Every record of a file, or its refusal.
+// Every record of a file that is read as a stored one, or its refusal.
 pub fn records(file: &[u8]) {
-    let told = read(file);
+    let told = read(file, Form { stored: true });
     match told {
         Reading::Accepted(layout) => {
             groups(b"card group", file, layout, 0);

@@ -2,6 +2,7 @@
 use casebook::line::number;
 use casebook::line::refused;
 use casebook::line::text;
+use claimfile::Form;
 use claimfile::Layout;
 use claimfile::Reading;
 use claimfile::read;
@@ -15,26 +16,37 @@ fn accepted(layout: Layout) {
     text(b"\n");
 }
 
-fn reading(file: &[u8]) {
-    let told = read(file);
+fn reading(file: &[u8], form: Form) {
+    let told = read(file, form);
     match told {
         Reading::Accepted(layout) => accepted(layout),
         Reading::Refused(why) => refused(Reason::File(why)),
     }
 }
 
-// The name and what is told of the file.
+// The name and what is told of the file as a new one.
 pub fn show(name: &[u8], file: &[u8]) {
     text(name);
-    reading(file);
+    reading(file, Form { stored: false });
+}
+
+fn first(buf: &[u8], n: usize, form: Form) {
+    if n <= buf.len() {
+        reading(&buf[..n], form);
+    }
 }
 
 // The same for the first `n` bytes of a buffer.
 pub fn show_first(name: &[u8], buf: &[u8], n: usize) {
     text(name);
-    if n <= buf.len() {
-        reading(&buf[..n]);
-    }
+    first(buf, n, Form { stored: false });
+}
+
+// The same as a stored file.
+pub fn show_stored(name: &[u8], buf: &[u8], n: usize) {
+    text(name);
+    text(b", stored");
+    first(buf, n, Form { stored: true });
 }
 
 fn cut(name: &[u8], file: &[u8], n: usize) {

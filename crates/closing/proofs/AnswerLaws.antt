@@ -26,6 +26,7 @@ use Rattle.theory.proofs.FirstLaws.{agree-sym, agree-trans}
 use Rattle.theory.proofs.BestLaws.{kept-agree}
 use Rattle.theory.proofs.LevelLaws.{certified-cong}
 use Rattle.theory.proofs.ChoiceLaws.{choice-kept}
+use Rattle.claimfile.specs.declared.Form.{Form}
 use Rattle.claimfile.specs.declared.Layout.{Layout}
 use Rattle.claimfile.specs.declared.Refusal.{Refusal}
 use Rattle.claimfile.specs.declared.Reading.{Reading}
@@ -38,7 +39,8 @@ use Rattle.refusal.specs.declared.Reason.the-variants.{File, Short}
 use Rattle.closing.specs.declared.Totals.{Totals}
 use Rattle.closing.specs.declared.Settled.{Settled}
 use Rattle.closing.specs.declared.Settled.the-variants.{Closed, Refused}
-use Rattle.closing.specs.Settle.{needed, Enough, Lacks, markOf, claimMarkOf, Closes, SettlesOn, Settles, Told, toldBy, lacks, bestRow, toldOn, toldFor}
+use Rattle.closing.specs.Settle.{needed, Enough, Lacks, markOf, claimMarkOf, Closes, SettlesOn, Settles}
+use Rattle.closing.specs.Settle.{Told, toldBy, lacks, bestRow, toldOn, toldFor}
 use Rattle.closing.specs.Close.{Lent, ClosedBy}
 use Rattle.closing.proofs.PartLaws.{front-at, front-rest}
 
@@ -218,25 +220,25 @@ lent-parts s l ch sheet t m e sound enough = record {
 --------------------------------------------------------------------------------
 -- The answers for a file
 
-module _ (s ch sheet t : List ℕ) where
+module _ (f : Form) (s ch sheet t : List ℕ) where
   pub settles-refused :
-      (why : Refusal) (r : Settled) → reading s ≡ reading-is.Refused why → r ≡ Refused (File why) →
-      Settles s ch sheet t ch sheet t r
+      (why : Refusal) (r : Settled) → reading f s ≡ reading-is.Refused why → r ≡ Refused (File why) →
+      Settles f s ch sheet t ch sheet t r
   settles-refused why r is e = record {
     refused = λ v p. (
-      e ∙ ap (λ (x : Refusal). Refused (File x)) (one-refusal (reading s) why v is p),
+      e ∙ ap (λ (x : Refusal). Refused (File x)) (one-refusal (reading f s) why v is p),
       record { choices = refl; sheets = refl; cells = refl },
     );
-    settled = λ l p. not-both (reading s) l why p is;
+    settled = λ l p. not-both (reading f s) l why p is;
     told = ap toldBy e ∙ ap (λ (x : Reading). toldFor s x ch sheet t) (sym is);
   }
 
   pub settles-accepted :
-      (ch′ sheet′ t′ : List ℕ) (r : Settled) (l : Layout) → reading s ≡ reading-is.Accepted l →
-      SettlesOn (instanceOf s l) ch sheet t ch′ sheet′ t′ r → Settles s ch sheet t ch′ sheet′ t′ r
+      (ch′ sheet′ t′ : List ℕ) (r : Settled) (l : Layout) → reading f s ≡ reading-is.Accepted l →
+      SettlesOn (instanceOf s l) ch sheet t ch′ sheet′ t′ r → Settles f s ch sheet t ch′ sheet′ t′ r
   settles-accepted ch′ sheet′ t′ r l is S = record {
-    refused = λ why p. not-both (reading s) l why is p;
+    refused = λ why p. not-both (reading f s) l why is p;
     settled = λ k p.
-        subst (λ (x : Layout). SettlesOn (instanceOf s x) ch sheet t ch′ sheet′ t′ r) (one-layout (reading s) l k is p) S;
+        subst (λ (x : Layout). SettlesOn (instanceOf s x) ch sheet t ch′ sheet′ t′ r) (one-layout (reading f s) l k is p) S;
     told = S .told ∙ ap (λ (x : Reading). toldFor s x ch sheet t) (sym is);
   }

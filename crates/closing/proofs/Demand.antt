@@ -1,6 +1,7 @@
 -- What settle promises, as theorems that a reader can cite: the number that it tells of every input, and demand 3 of every file
 -- that it closes, whatever the lent memory held: of any instance that is formed and has two kinds, as the instance of an accepted file
--- is (`day-formed`, `kinds-two`, SettleLaws). `Y` stands for any choice of the rows that fits both sides.
+-- is (`day-formed`, `kinds-two`, SettleLaws). `f` is the form in which the call takes the file, new or stored; `Y` stands for any choice
+-- of the rows that fits both sides.
 --   number-told            the number told is that of the file's first fault, else 8 for short buffers, else none
 --   one-total not-refused  an answer is one: two totals are the same, and a closed day is not refused
 --   closed-on              where a day is closed, the buffers are long enough and what is left is as `Closes` says
@@ -15,46 +16,58 @@
 -- That the file alone decides what is answered is the field `told`, and `best-earned`, `best-rows`, `best-total` (AnswerLaws).
 --   sheet-bounds           no Y weighs more than the total that is answered
 --   covered                every claim is covered
-use mathlib.Core.Path.{_≡_, refl, ap, _∙_, subst}
-use mathlib.Core.Logic.{_⊎_, inl, inr}
+-- Document 02, E4, of a file that either call closed:
+--   stored-rows            "The lowered file keeps the same rows as the limits as stored would": the kept choice is that of the limits as
+--                          stored, in document 01's words
+--   stored-best            row by row, it is their best choice
+--   stored-marks           "marks are those of the lowered limits": it is by these that they certify the kept choice
+-- Both calls agree on every new file:
+--   new-told               they tell the same
+--   new-settles            what one of them answers and leaves is as the other promises
+--   new-rows               they keep the same rows
+use mathlib.Core.Path.{_≡_, refl, sym, ap, _∙_, subst}
+use mathlib.Core.Logic.{_⊎_, inl, inr, _↔_}
 use mathlib.Core.List.{List}
 use Prim.Native.Nat.{ℕ, _+_, _*_, _≤_, _<_}
 use native.Mathlib.Decide.{decLt}
 use native.Mathlib.Omega.{arith}
 use lib.ListN.{length}
-use borrow.Author.Tests.{lt-ltb, le-ltb}
 use Rattle.theory.specs.Incidence.{Covers, size, worth}
 use Rattle.theory.specs.Matroid.{row}
 use Rattle.theory.specs.Network.{Network, Instance, FitsBoth, Choice, onBoth}
 use Rattle.theory.specs.Formed.{Formed}
 use Rattle.theory.specs.Priority.{kept, weightOf}
 use Rattle.theory.specs.Best.{First, Agree, Kept}
-use Rattle.theory.specs.Search.{bestChoice}
-use Rattle.theory.proofs.SumLaws.{sum-cong}
+use Rattle.theory.specs.Sheet.{Certified}
 use Rattle.theory.proofs.FirstLaws.{agree-sym, agree-trans}
-use Rattle.theory.proofs.BestLaws.{kept-agree}
+use Rattle.theory.proofs.ListsLaws.{KeptOf}
 use Rattle.theory.proofs.LevelLaws.{certified-heaviest}
 use Rattle.theory.proofs.ChoiceLaws as choice
+use Rattle.claimfile.specs.declared.Form.{Form}
 use Rattle.claimfile.specs.declared.Layout.{Layout}
 use Rattle.claimfile.specs.declared.Reading.{Reading}
 use Rattle.claimfile.specs.declared.Reading.the-variants as reading-is
-use Rattle.claimfile.specs.File.{reading}
-use Rattle.claimfile.specs.Day.{networkOf, instanceOf}
+use Rattle.claimfile.specs.File.{newFile, storedFile, reading}
+use Rattle.claimfile.specs.Day.{kindOf, limitOf, networkOf, instanceOf, writtenDay}
+use Rattle.claimfile.specs.Sound.{Sound}
+use Rattle.claimfile.proofs.AcceptedLaws.{one-layout, accepted-sound}
+use Rattle.claimfile.proofs.StoredLaws.{new-stored, stored-kept, stored-choice}
 use Rattle.refusal.specs.declared.Reason.{Reason}
 use Rattle.refusal.specs.declared.Reason.the-variants.{File, Short}
 use Rattle.closing.specs.declared.Totals.{Totals}
 use Rattle.closing.specs.declared.Settled.{Settled}
 use Rattle.closing.specs.declared.Settled.the-variants.{Closed, Refused}
-use Rattle.closing.specs.Settle.{Told, toldBy, toldFor, needed, Enough, Lacks, markOf, claimMarkOf, Closes, SettlesOn, Settles}
-use Rattle.closing.proofs.AnswerLaws.{total-worth}
+use Rattle.closing.specs.Settle.{Told, toldBy, toldFor, needed, Enough, Lacks, bestRow}
+use Rattle.closing.specs.Settle.{markOf, claimMarkOf, Closes, SettlesOn, Settles}
+use Rattle.closing.proofs.AnswerLaws.{total-worth, settles-accepted}
 use Rattle.closing.proofs.CountLaws.{two-worth}
 
 --------------------------------------------------------------------------------
 -- Every input
 
-pub record ClosedDay (s ch sheet t ch′ sheet′ t′ : List ℕ) (a : Totals) : Type 0 where
+pub record ClosedDay (f : Form) (s ch sheet t ch′ sheet′ t′ : List ℕ) (a : Totals) : Type 0 where
   pub layout : Layout
-  pub accepted : reading s ≡ reading-is.Accepted layout
+  pub accepted : reading f s ≡ reading-is.Accepted layout
   pub enough : Enough (networkOf s layout) ch sheet t
   pub closes : Closes (instanceOf s layout) ch sheet t ch′ sheet′ t′ a
 
@@ -95,22 +108,22 @@ closed-on i ch sheet t ch′ sheet′ t′ r a S is =
     ]
 
 module _
-    (s ch sheet t ch′ sheet′ t′ : List ℕ) (r : Settled) (a : Totals) (S : Settles s ch sheet t ch′ sheet′ t′ r)
+    (f : Form) (s ch sheet t ch′ sheet′ t′ : List ℕ) (r : Settled) (a : Totals) (S : Settles f s ch sheet t ch′ sheet′ t′ r)
     (is : r ≡ Closed a)
   where
-    judged : (x : Reading) → reading s ≡ x → ClosedDay s ch sheet t ch′ sheet′ t′ a
+    judged : (x : Reading) → reading f s ≡ x → ClosedDay f s ch sheet t ch′ sheet′ t′ a
     judged (reading-is.Refused why) p = not-refused r (File why) a (S .refused why p .0) is
     judged (reading-is.Accepted l) p =
         let closed = closed-on (instanceOf s l) ch sheet t ch′ sheet′ t′ r a (S .settled l p) is in
         record { layout = l; accepted = p; enough = closed .0; closes = closed .1 }
 
-    pub closed-day : ClosedDay s ch sheet t ch′ sheet′ t′ a
-    closed-day = judged (reading s) refl
+    pub closed-day : ClosedDay f s ch sheet t ch′ sheet′ t′ a
+    closed-day = judged (reading f s) refl
 
 pub number-told :
-    (s ch sheet t ch′ sheet′ t′ : List ℕ) (r : Settled) → Settles s ch sheet t ch′ sheet′ t′ r →
-    toldBy r .number ≡ toldFor s (reading s) ch sheet t .number
-number-told s ch sheet t ch′ sheet′ t′ r S = ap (λ (x : Told). x .number) (S .told)
+    (f : Form) (s ch sheet t ch′ sheet′ t′ : List ℕ) (r : Settled) → Settles f s ch sheet t ch′ sheet′ t′ r →
+    toldBy r .number ≡ toldFor s (reading f s) ch sheet t .number
+number-told f s ch sheet t ch′ sheet′ t′ r S = ap (λ (x : Told). x .number) (S .told)
 
 --------------------------------------------------------------------------------
 -- A closed file
@@ -165,3 +178,48 @@ module _
 
         pub first-rows : size (i .net .rows) Y ≡ a .kept → Agree (i .net .rows) (row ch′) Y ⊎ First (i .net .rows) (row ch′) Y
         first-rows rows = kept-choice .first Y (fits .bits) (fits .fits) (earned ∙ C .earned) (rows ∙ C .kept)
+
+--------------------------------------------------------------------------------
+-- Stored files
+
+module _ (f : Form) (s ch sheet t ch′ sheet′ t′ : List ℕ) (a : Totals) (D : ClosedDay f s ch sheet t ch′ sheet′ t′ a) where
+  abbrev sound : Sound s (D .layout)
+  sound = accepted-sound f s (D .layout) (D .accepted)
+
+  pub stored-rows : KeptOf (writtenDay s (D .layout)) (row ch′)
+  stored-rows = stored-kept s (D .layout) sound (row ch′) .1 (D .closes .choice)
+
+  pub stored-best : Agree (D .layout .rows) (row ch′) (bestRow (writtenDay s (D .layout)))
+  stored-best c h = D .closes .best c h ∙ ap (λ (x : List ℕ). row x c) (sym (stored-choice s (D .layout) sound))
+
+  pub stored-marks :
+      Certified (networkOf s (D .layout)) (limitOf s (D .layout)) (weightOf (D .layout .rows) (kindOf s (D .layout)))
+      (D .layout .rows + 1) (row ch′) (markOf sheet′) (claimMarkOf (networkOf s (D .layout)) sheet′)
+  stored-marks = D .closes .certified
+
+module _ (s : List ℕ) (l : Layout) (is : reading newFile s ≡ reading-is.Accepted l) where
+  pub new-told : (ch sheet t : List ℕ) → toldFor s (reading newFile s) ch sheet t ≡ toldFor s (reading storedFile s) ch sheet t
+  new-told ch sheet t = ap (λ (x : Reading). toldFor s x ch sheet t) (is ∙ sym (new-stored s l is))
+
+  pub new-settles :
+      (ch sheet t ch′ sheet′ t′ : List ℕ) (r : Settled) →
+      Settles newFile s ch sheet t ch′ sheet′ t′ r ↔ Settles storedFile s ch sheet t ch′ sheet′ t′ r
+  new-settles ch sheet t ch′ sheet′ t′ r =
+      let stored = new-stored s l is in (
+        λ S. settles-accepted storedFile s ch sheet t ch′ sheet′ t′ r l stored (S .settled l is),
+        λ S. settles-accepted newFile s ch sheet t ch′ sheet′ t′ r l is (S .settled l stored),
+      )
+
+  same-day :
+      (f : Form) → reading f s ≡ reading-is.Accepted l → (ch sheet t ch′ sheet′ t′ : List ℕ) (a : Totals) →
+      ClosedDay f s ch sheet t ch′ sheet′ t′ a → Closes (instanceOf s l) ch sheet t ch′ sheet′ t′ a
+  same-day f p ch sheet t ch′ sheet′ t′ a D =
+      subst (λ (x : Layout). Closes (instanceOf s x) ch sheet t ch′ sheet′ t′ a)
+      (one-layout (reading f s) (D .layout) l (D .accepted) p) (D .closes)
+
+  pub new-rows :
+      (ch sheet t ch₁ sheet₁ t₁ ch₂ sheet₂ t₂ : List ℕ) (a b : Totals) → ClosedDay newFile s ch sheet t ch₁ sheet₁ t₁ a →
+      ClosedDay storedFile s ch sheet t ch₂ sheet₂ t₂ b → Agree (l .rows) (row ch₁) (row ch₂)
+  new-rows ch sheet t ch₁ sheet₁ t₁ ch₂ sheet₂ t₂ a b D E =
+      agree-trans (l .rows) (same-day newFile is ch sheet t ch₁ sheet₁ t₁ a D .best)
+      (agree-sym (l .rows) (same-day storedFile (new-stored s l is) ch sheet t ch₂ sheet₂ t₂ b E .best))

@@ -14,7 +14,8 @@
 --                          the kept rows; the needed scratch is zero; every cell past the needed lengths is as it was
 --   Untouched ..           no lent cell is changed
 --   SettlesOn ..           what settling a day answers and leaves: refused for short buffers, or closed
---   Settles ..             the whole contract: refused by the file's first fault, or what settling its day answers and leaves
+--   Settles f s ..         the whole contract, for a file s in the form f: refused by its first fault, or what settling its day answers
+--                          and leaves
 use mathlib.Core.Path.{_≡_}
 use mathlib.Core.Bool.{Bool, true}
 use mathlib.Core.Logic.{_⊎_}
@@ -30,6 +31,7 @@ use Rattle.theory.specs.Priority.{kept, weightOf}
 use Rattle.theory.specs.Best.{Kept}
 use Rattle.theory.specs.Search.{bestChoice}
 use Rattle.theory.specs.Sheet.{Certified}
+use Rattle.claimfile.specs.declared.Form.{Form}
 use Rattle.claimfile.specs.declared.Layout.{Layout}
 use Rattle.claimfile.specs.declared.Refusal.{Refusal}
 use Rattle.claimfile.specs.declared.Reading.{Reading}
@@ -121,8 +123,8 @@ pub record SettlesOn (i : Instance) (ch sheet t ch′ sheet′ t′ : List ℕ) 
   pub closed : Enough (i .net) ch sheet t → (a : Totals) × (r ≡ Closed a) × Closes i ch sheet t ch′ sheet′ t′ a
   pub told : toldBy r ≡ toldOn i ch sheet t
 
-pub record Settles (s ch sheet t ch′ sheet′ t′ : List ℕ) (r : Settled) : Type 0 where
+pub record Settles (f : Form) (s ch sheet t ch′ sheet′ t′ : List ℕ) (r : Settled) : Type 0 where
   pub refused :
-      (why : Refusal) → reading s ≡ reading-is.Refused why → (r ≡ Refused (File why)) × Untouched ch sheet t ch′ sheet′ t′
-  pub settled : (l : Layout) → reading s ≡ reading-is.Accepted l → SettlesOn (instanceOf s l) ch sheet t ch′ sheet′ t′ r
-  pub told : toldBy r ≡ toldFor s (reading s) ch sheet t
+      (why : Refusal) → reading f s ≡ reading-is.Refused why → (r ≡ Refused (File why)) × Untouched ch sheet t ch′ sheet′ t′
+  pub settled : (l : Layout) → reading f s ≡ reading-is.Accepted l → SettlesOn (instanceOf s l) ch sheet t ch′ sheet′ t′ r
+  pub told : toldBy r ≡ toldFor s (reading f s) ch sheet t

@@ -87,7 +87,7 @@ afterReading (Refused why) d = refused why
 afterReading (Accepted l) d = settled (instanceOf (d .file) l) d
 
 abbrev pub worked : Day → Outcome
-worked d = afterReading (reading (d .file)) d
+worked d = afterReading (reading (d .form) (d .file)) d
 
 abbrev pub stated : Day → Outcome
 stated d = closed (d .settle) true (d .questions)

@@ -2,8 +2,7 @@
 --   told-found                 what the answers of an instance mean
 --   finds                      what is found when the rows have risen
 --   ranked-value ranked-side   the answer of fits and rank for an accepted file, one law a case
---   answered-by                an answer that is as defined says what it means
---   told-most                  a rank is at most 512
+--   answered-by                an answer that is as defined says what it means, and its rank is at most 512
 use mathlib.Core.Path.{_≡_, refl, sym, ap, ap₂, _∙_, subst}
 use mathlib.Core.List.{List}
 use mathlib.Core.Bool.{Bool, true, false}
@@ -21,6 +20,7 @@ use Rattle.theory.proofs.TestLaws.{either, fits-true, true-fits}
 use Rattle.theory.proofs.RankLaws.{rank-unique, fits-rank}
 use Rattle.claimfile.specs.File.{reading}
 use Rattle.claimfile.specs.Day.{instanceOf}
+use Rattle.claimfile.specs.declared.Form.{Form}
 use Rattle.claimfile.specs.declared.Layout.{Layout}
 use Rattle.claimfile.specs.declared.Reading.{Reading}
 use Rattle.claimfile.specs.declared.Reading.the-variants as reading-is
@@ -115,9 +115,9 @@ module _ (s sel : List ℕ) (l : Layout) (ready : Ready s sel l) (side : ℕ) wh
 -- Fits and rank
 
 module _ (s sel : List ℕ) (side : ℕ) where
-  ranked-by : (x : Entry) → entered s sel ≡ x → ranked s sel side ≡ rankedBy s sel side x
+  ranked-by : (f : Form) (x : Entry) → entered f s sel ≡ x → ranked f s sel side ≡ rankedBy s sel side x
   unfolding ranked
-  ranked-by x e = ap (rankedBy s sel side) e
+  ranked-by f x e = ap (rankedBy s sel side) e
 
   module _ (l : Layout) where
     pub ranked-value : 1 < side → ranked-is.Refused Value ≡ rankedBy s sel side (Entered l)
@@ -130,13 +130,18 @@ module _ (s sel : List ℕ) (side : ℕ) where
     ranked-side h f e b n p q =
         rw (le-ltb _ _ h) (ap₂ ranked-is.Told p q ∙ ap (λ (x : Found). ranked-is.Told (x .fits) (x .rank)) e)
 
-module _ (s sel : List ℕ) (side : ℕ) (r : Ranked) (is : r ≡ ranked s sel side) where
+-- a rank is at most the number of rows
+rank-rows :
+    (N : ℕ) (Fit : (ℕ → ℕ) → Type 0) (X : ℕ → ℕ) (n : ℕ) → Rank N (λ Y. Selection N Y × Fit Y) X n → n ≤ N
+rank-rows N Fit X n k = omega (arith, k .is, sum-bound N 1 (k .ind .0))
+
+module _ (f : Form) (s sel : List ℕ) (side : ℕ) (r : Ranked) (is : r ≡ ranked f s sel side) where
   -- a refusal's number is not 0
   not-refused : {A : Type 0} (why : Reason) → rankedNumbers r .number ≡ 0 → r ≡ ranked-is.Refused why → A
   not-refused why none e = absurd (omega (arith, number-some why, ap (λ x. rankedNumbers x .number) e))
 
   means-entered :
-      (l : Layout) → rankedNumbers r .number ≡ 0 → entered s sel ≡ Entered l → Ready s sel l →
+      (l : Layout) → rankedNumbers r .number ≡ 0 → entered f s sel ≡ Entered l → Ready s sel l →
       Told (instanceOf s l) sel side (rankedNumbers r .fits) (rankedNumbers r .rank)
   means-entered l none e ready =
       elim (decLt 1 side) [
@@ -148,46 +153,38 @@ module _ (s sel : List ℕ) (side : ℕ) (r : Ranked) (is : r ≡ ranked s sel s
       ]
     where
       by : r ≡ rankedBy s sel side (Entered l)
-      by = is ∙ ranked-by s sel side (Entered l) e
+      by = is ∙ ranked-by s sel side f (Entered l) e
 
-  answered : Answered s sel side r
+  means :
+      (l : Layout) → reading f s ≡ reading-is.Accepted l → rankedNumbers r .number ≡ 0 →
+      Told (instanceOf s l) sel side (rankedNumbers r .fits) (rankedNumbers r .rank)
+  means l e none =
+      elim (entering f s sel l e) [
+        | inl q ↦ not-refused (q .0) none (is ∙ ranked-by s sel side f (Turned (q .0)) (q .1))
+        | inr q ↦ means-entered l none (q .0) (q .1)
+      ]
+
+  told-most : (x : Ranked) → r ≡ x → (y : Reading) → reading f s ≡ y → rankedNumbers x .rank ≤ maxRows
+  told-most (ranked-is.Refused why) e y h = zero-le
+  told-most (ranked-is.Told b n) e (reading-is.Refused why) h =
+      not-refused (File why) (ap (λ x. rankedNumbers x .number) e)
+      (is ∙ ranked-by s sel side f (Turned (File why)) (entered-by f s sel (reading-is.Refused why) h))
+  told-most (ranked-is.Told b n) e (reading-is.Accepted l) h =
+      let d = instanceOf s l in
+      omega (
+        arith,
+        rank-rows (l .rows) (FitsSide (d .net) (d .limit) side) (row sel) _
+            (means l h (ap (λ x. rankedNumbers x .number) e) .rank),
+        ap (λ x. rankedNumbers x .rank) e,
+        accepted-sound f s l h .rows-most,
+      )
+
+  answered : Answered f s sel side r
   answered =
-      record {
-        is = is;
-        numbers = ap rankedNumbers is;
-        means = λ l e none.
-            elim (entering s sel l e) [
-              | inl q ↦ not-refused (q .0) none (is ∙ ranked-by s sel side (Turned (q .0)) (q .1))
-              | inr q ↦ means-entered l none (q .0) (q .1)
-            ];
-      }
+      record { is = is; numbers = ap rankedNumbers is; most = told-most r refl (reading f s) refl; means = means }
 
 -- the same of what the call answers: y is the entry that was found, x what it is
 pub answered-by :
-    (s sel : List ℕ) (side : ℕ) (r : Ranked) (y x : Entry) → y ≡ entered s sel → y ≡ x → r ≡ rankedBy s sel side x →
-    Answered s sel side r
-answered-by s sel side r y x e f is = answered s sel side r (is ∙ sym (ranked-by s sel side x (sym e ∙ f)))
-
---------------------------------------------------------------------------------
--- A rank is small
-
--- a rank is at most the number of rows
-rank-rows :
-    (N : ℕ) (Fit : (ℕ → ℕ) → Type 0) (X : ℕ → ℕ) (n : ℕ) → Rank N (λ Y. Selection N Y × Fit Y) X n → n ≤ N
-rank-rows N Fit X n k = omega (arith, k .is, sum-bound N 1 (k .ind .0))
-
-pub told-most : (s sel : List ℕ) (side : ℕ) (r : Ranked) → Answered s sel side r → rankedNumbers r .rank ≤ maxRows
-told-most s sel side (ranked-is.Refused why) a = zero-le
-told-most s sel side (ranked-is.Told b n) a = go (reading s) refl
-  where
-    go : (x : Reading) → reading s ≡ x → n ≤ maxRows
-    go (reading-is.Refused why) h =
-        not-refused s sel side (ranked-is.Told b n) (a .is) (File why) refl
-        (a .is ∙ ranked-by s sel side (Turned (File why)) (entered-by s sel (reading-is.Refused why) h))
-    go (reading-is.Accepted l) h =
-        let d = instanceOf s l in
-        omega (
-          arith,
-          rank-rows (l .rows) (FitsSide (d .net) (d .limit) side) (row sel) n (a .means l h refl .rank),
-          accepted-sound s l h .rows-most,
-        )
+    (f : Form) (s sel : List ℕ) (side : ℕ) (r : Ranked) (y x : Entry) → y ≡ entered f s sel → y ≡ x → r ≡ rankedBy s sel side x →
+    Answered f s sel side r
+answered-by f s sel side r y x e q is = answered f s sel side r (is ∙ sym (ranked-by s sel side f x (sym e ∙ q)))

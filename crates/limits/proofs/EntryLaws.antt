@@ -15,6 +15,7 @@ use lib.ListN.{length}
 use borrow.Author.Tests.{lt-ltb, le-ltb}
 use Rattle.theory.proofs.TestLaws.{either}
 use Rattle.claimfile.specs.File.{reading}
+use Rattle.claimfile.specs.declared.Form.{Form}
 use Rattle.claimfile.specs.declared.Layout.{Layout}
 use Rattle.claimfile.specs.declared.Reading.{Reading}
 use Rattle.claimfile.specs.declared.Reading.the-variants.{Accepted, Refused}
@@ -38,17 +39,17 @@ module _ (sel : List ℕ) (l : Layout) where
     pub judged-is : bits (l .rows) sel ≡ true → Entered l ≡ enteredBy sel (Accepted l)
     judged-is b = rw (le-ltb _ _ h, b)
 
-pub entered-by : (s sel : List ℕ) (x : Reading) → reading s ≡ x → entered s sel ≡ enteredBy sel x
+pub entered-by : (f : Form) (s sel : List ℕ) (x : Reading) → reading f s ≡ x → entered f s sel ≡ enteredBy sel x
 unfolding entered
-entered-by s sel x e = ap (enteredBy sel) e
+entered-by f s sel x e = ap (enteredBy sel) e
 
 -- an accepted file with a selection is turned away with 8 or 9, or ready
-abbrev pub Entering : List ℕ → List ℕ → Layout → Type 0
-Entering s sel l =
-    ((why : Reason) × (entered s sel ≡ Turned why)) ⊎ ((entered s sel ≡ Entered l) × Ready s sel l)
+abbrev pub Entering : Form → List ℕ → List ℕ → Layout → Type 0
+Entering f s sel l =
+    ((why : Reason) × (entered f s sel ≡ Turned why)) ⊎ ((entered f s sel ≡ Entered l) × Ready s sel l)
 
-pub entering : (s sel : List ℕ) (l : Layout) → reading s ≡ Accepted l → Entering s sel l
-entering s sel l e =
+pub entering : (f : Form) (s sel : List ℕ) (l : Layout) → reading f s ≡ Accepted l → Entering f s sel l
+entering f s sel l e =
     elim (decLt (length sel) (l .rows)) [
       | yes h ↦ inl (Short, by ∙ sym (judged-short sel l h))
       | no h ↦
@@ -56,14 +57,14 @@ entering s sel l e =
             | inl b ↦
                 inr (
                   by ∙ sym (judged-is sel l (omega arith) b),
-                  record { sound = accepted-sound s l e; long = omega arith; bits = are-bits (l .rows) sel b },
+                  record { sound = accepted-sound f s l e; long = omega arith; bits = are-bits (l .rows) sel b },
                 )
             | inr b ↦ inl (Value, by ∙ sym (judged-value sel l (omega arith) b))
           ]
     ]
   where
-    by : entered s sel ≡ enteredBy sel (Accepted l)
-    by = entered-by s sel (Accepted l) e
+    by : entered f s sel ≡ enteredBy sel (Accepted l)
+    by = entered-by f s sel (Accepted l) e
 
 one-entry : (x : Entry) (k l : Layout) → x ≡ Entered k → x ≡ Entered l → k ≡ l
 one-entry x k l p q = cc
@@ -71,13 +72,13 @@ one-entry x k l p q = cc
 not-entered : (x : Entry) (why : Reason) (l : Layout) → x ≡ Turned why → x ≡ Entered l → ⊥
 not-entered x why l p q = let z : _≡_ {A = ℕ} 0 1 = cc in omega arith
 
-pub entered-ready : (s sel : List ℕ) (l : Layout) → entered s sel ≡ Entered l → Ready s sel l
-entered-ready s sel l e = go (reading s) refl
+pub entered-ready : (f : Form) (s sel : List ℕ) (l : Layout) → entered f s sel ≡ Entered l → Ready s sel l
+entered-ready f s sel l e = go (reading f s) refl
   where
-    go : (x : Reading) → reading s ≡ x → Ready s sel l
-    go (Refused why) h = absurd (not-entered (entered s sel) (File why) l (entered-by s sel (Refused why) h) e)
+    go : (x : Reading) → reading f s ≡ x → Ready s sel l
+    go (Refused why) h = absurd (not-entered (entered f s sel) (File why) l (entered-by f s sel (Refused why) h) e)
     go (Accepted k) h =
-        elim (entering s sel k h) [
-          | inl q ↦ absurd (not-entered (entered s sel) (q .0) l (q .1) e)
-          | inr q ↦ subst (Ready s sel) (one-entry (entered s sel) k l (q .0) e) (q .1)
+        elim (entering f s sel k h) [
+          | inl q ↦ absurd (not-entered (entered f s sel) (q .0) l (q .1) e)
+          | inr q ↦ subst (Ready s sel) (one-entry (entered f s sel) k l (q .0) e) (q .1)
         ]

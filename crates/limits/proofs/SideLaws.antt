@@ -1,10 +1,11 @@
 -- Laws of a side of a file: its groups are a part of the network of both sides.
 --   hangs-card hangs-shop  where a row hangs on a side, by its record
 --   side-node              rows hang at groups of the side
---   side-hanging           the rows at the groups of the side, as rows at the nodes of the network
 --   sound-matroid          the lists of rows that fit a side of a sound file are the independent sets of a matroid
 --   file-matroid           the same of an accepted file
---   side-fits fits-side side-rank      what fits the side's groups fits the side, and a rank there is a rank on the side
+--   group-node node-group  what fits limits of the side's groups fits limits of the nodes that agree with them
+--   side-fits fits-side side-rank      what fits the written limits of the side's groups fits the side, and a rank there is a rank on the
+--                          side
 --   on-own on-other both-on both-load  a row counts in a group by the side of that group, and so do many
 use mathlib.Core.Path.{_≡_, refl, ap}
 use mathlib.Core.List.{List}
@@ -20,16 +21,18 @@ use Rattle.theory.specs.Matroid.{Matroid, Rank}
 use Rattle.theory.proofs.NetworkLaws.{formed-down}
 use Rattle.theory.proofs.MatroidLaws.{side-matroid}
 use Rattle.theory.proofs.SumLaws.{sum-cong}
-use Rattle.theory.proofs.EmbedLaws.{Stands, Hanging, part-chain, part-other, part-fits, fits-part, part-rank}
-use Rattle.claimfile.specs.Day.{countOf, groupOf, namedCard, namedShop, groupsOf, firstOf, rootOf}
-use Rattle.claimfile.specs.Day.{parentOf, limitOf, networkOf}
+use Rattle.theory.proofs.EmbedLaws.{Stands, Part, Hanging, part-chain, part-other, part-fits, fits-part, part-rank}
+use Rattle.claimfile.specs.Day.{countOf, groupOf, namedCard, namedShop, groupsOf, firstOf}
+use Rattle.claimfile.specs.Day.{parentOf, writtenOf, limitOf, networkOf}
 use Rattle.claimfile.specs.Sound.{Sound}
 use Rattle.claimfile.specs.File.{reading}
+use Rattle.claimfile.specs.declared.Form.{Form}
 use Rattle.claimfile.specs.declared.Layout.{Layout}
 use Rattle.claimfile.specs.declared.Reading.the-variants.{Accepted}
 use Rattle.claimfile.proofs.AcceptedLaws.{accepted-sound}
-use Rattle.claimfile.proofs.DayLaws.{parent-on, limit-on, card-node, shop-node, sound-formed}
-use Rattle.limits.specs.Side.{parentIn, limitIn, hangs, countsIn, FitsIn}
+use Rattle.claimfile.proofs.DayLaws.{side-room, root-past, parent-on, written-on, card-node, shop-node, sound-formed}
+use Rattle.claimfile.proofs.StoredLaws.{stored-fits, fits-stored, stored-rank}
+use Rattle.limits.specs.Side.{parentIn, limitIn, hangs, countsIn, FitsBy, FitsIn}
 use Rattle.limits.proofs.ChainLaws.{side-down}
 
 pub hangs-card : (s : List ℕ) (l : Layout) (side c : ℕ) → side ≡ 0 → hangs s l side c ≡ namedCard s l c
@@ -38,15 +41,6 @@ hangs-card s l side c e = rw e
 pub hangs-shop : (s : List ℕ) (l : Layout) (side c : ℕ) → side ≢ 0 → hangs s l side c ≡ namedShop s l c
 hangs-shop s l zero c n = absurd (n refl)
 hangs-shop s l (suc side) c n = refl
-
--- the nodes of a side lie within the network, and its root past it
-pub side-room : (l : Layout) (side : ℕ) → firstOf l side + countOf l side ≤ groupsOf l
-side-room l zero = omega arith
-side-room l (suc n) = le-refl (groupsOf l)
-
-root-past : (l : Layout) (side : ℕ) → groupsOf l ≤ rootOf l side
-root-past l zero = le-refl (groupsOf l)
-root-past l (suc n) = omega arith
 
 module _ (s : List ℕ) (l : Layout) (sound : Sound s l) where
   pub side-node : (side c : ℕ) → c < l .rows → hangs s l side c < countOf l side
@@ -73,56 +67,75 @@ module _ (s : List ℕ) (l : Layout) (sound : Sound s l) where
               rw (parent-on s l side g m, le-ltb _ _ large) (inr (le-refl (countOf l side), root-past l side))
         ]
 
-    side-hanging :
-        Hanging (l .rows) (countOf l side) (parentIn s l side) (limitIn s l side) (hangs s l side) (groupsOf l) (parentOf s l)
-        (limitOf s l) (node (networkOf s l) side) (firstOf l side)
-    side-hanging =
+    abbrev part : Part (countOf l side) (parentIn s l side) (groupsOf l) (parentOf s l) (firstOf l side)
+    part =
         record {
-          part = record {
-            down = side-down s l side;
-            whole = formed-down (networkOf s l) (sound-formed s l sound);
-            room = side-room l side;
-            up = stands;
-          };
-          rows = λ c h. inl (side-node side c h, node-is side c);
-          limits = limit-on s l side;
+          down = side-down s l side;
+          whole = formed-down (networkOf s l) (sound-formed s l sound);
+          room = side-room l side;
+          up = stands;
         }
 
+    row-stands :
+        (c : ℕ) → c < l .rows →
+        Stands (countOf l side) (groupsOf l) (firstOf l side) (hangs s l side c) (node (networkOf s l) side c)
+    row-stands c h = inl (side-node side c h, node-is side c)
+
+    -- limits of the side's groups and limits of the nodes that agree
+    module _ (limit cap : ℕ → ℕ) (agree : (g : ℕ) → g < countOf l side → cap (firstOf l side + g) ≡ limit g) where
+      side-hanging :
+          Hanging (l .rows) (countOf l side) (parentIn s l side) limit (hangs s l side) (groupsOf l) (parentOf s l) cap
+          (node (networkOf s l) side) (firstOf l side)
+      side-hanging = record { part = part; rows = row-stands; limits = agree }
+
+      pub group-node : (X : ℕ → ℕ) → FitsBy s l side limit X → FitsSide (networkOf s l) cap side X
+      unfolding onSide
+      group-node =
+          part-fits (l .rows) (countOf l side) (parentIn s l side) limit (hangs s l side) (groupsOf l)
+          (parentOf s l) cap (node (networkOf s l) side) (firstOf l side) side-hanging
+
+      pub node-group : (X : ℕ → ℕ) → FitsSide (networkOf s l) cap side X → FitsBy s l side limit X
+      unfolding onSide
+      node-group =
+          fits-part (l .rows) (countOf l side) (parentIn s l side) limit (hangs s l side) (groupsOf l)
+          (parentOf s l) cap (node (networkOf s l) side) (firstOf l side) side-hanging
+
+      group-rank :
+          (X : ℕ → ℕ) (n : ℕ) → Rank (l .rows) (λ Y. Selection (l .rows) Y × FitsBy s l side limit Y) X n →
+          Rank (l .rows) (Independent (networkOf s l) cap side) X n
+      unfolding onSide
+      group-rank =
+          part-rank (l .rows) (countOf l side) (parentIn s l side) limit (hangs s l side) (groupsOf l)
+          (parentOf s l) cap (node (networkOf s l) side) (firstOf l side) side-hanging
+
+    -- by the written limits of its groups, and so by the limits of the file
     module _ (X : ℕ → ℕ) where
       pub side-fits : FitsIn s l side X → FitsSide (networkOf s l) (limitOf s l) side X
-      unfolding onSide
-      side-fits =
-          part-fits (l .rows) (countOf l side) (parentIn s l side) (limitIn s l side) (hangs s l side) (groupsOf l)
-          (parentOf s l) (limitOf s l) (node (networkOf s l) side) (firstOf l side) side-hanging X
+      side-fits f = stored-fits s l sound side X (group-node (limitIn s l side) (writtenOf s l) (written-on s l side) X f)
 
       pub fits-side : FitsSide (networkOf s l) (limitOf s l) side X → FitsIn s l side X
-      unfolding onSide
-      fits-side =
-          fits-part (l .rows) (countOf l side) (parentIn s l side) (limitIn s l side) (hangs s l side) (groupsOf l)
-          (parentOf s l) (limitOf s l) (node (networkOf s l) side) (firstOf l side) side-hanging X
+      fits-side f = node-group (limitIn s l side) (writtenOf s l) (written-on s l side) X (fits-stored s l sound side X f)
 
       pub side-rank :
           (n : ℕ) → Rank (l .rows) (λ Y. Selection (l .rows) Y × FitsIn s l side Y) X n →
           Rank (l .rows) (Independent (networkOf s l) (limitOf s l) side) X n
-      unfolding onSide
-      side-rank =
-          part-rank (l .rows) (countOf l side) (parentIn s l side) (limitIn s l side) (hangs s l side) (groupsOf l)
-          (parentOf s l) (limitOf s l) (node (networkOf s l) side) (firstOf l side) side-hanging X
+      side-rank n r =
+          stored-rank s l sound side X n .0 (group-rank (limitIn s l side) (writtenOf s l) (written-on s l side) X n r)
 
   module _ (c : ℕ) (row : c < l .rows) where
     -- by its node on a side a row counts in the groups of that side alone
     on-own : (side g : ℕ) → g < countOf l side → onSide (networkOf s l) side c (firstOf l side + g) ≡ countsIn s l side c g
     unfolding onSide
     on-own side g m =
-        part-chain (countOf l side) (parentIn s l side) (groupsOf l) (parentOf s l) (firstOf l side) (side-hanging side .part) g m
-        (hangs s l side c) (node (networkOf s l) side c) (side-hanging side .rows c row)
+        part-chain (countOf l side) (parentIn s l side) (groupsOf l) (parentOf s l) (firstOf l side) (part side) g m
+        (hangs s l side c) (node (networkOf s l) side c) (row-stands side c row)
 
     on-other :
         (side v : ℕ) → (v < firstOf l side) ⊎ (firstOf l side + countOf l side ≤ v) → onSide (networkOf s l) side c v ≡ 0
     unfolding onSide
     on-other side v apart =
-        part-other (countOf l side) (parentIn s l side) (groupsOf l) (parentOf s l) (firstOf l side) (side-hanging side .part) v
-        apart (hangs s l side c) (node (networkOf s l) side c) (side-hanging side .rows c row)
+        part-other (countOf l side) (parentIn s l side) (groupsOf l) (parentOf s l) (firstOf l side) (part side) v
+        apart (hangs s l side c) (node (networkOf s l) side c) (row-stands side c row)
 
     pub both-on :
         (side g : ℕ) → g < countOf l side → onBoth (networkOf s l) c (firstOf l side + g) ≡ countsIn s l side c g
@@ -138,6 +151,6 @@ module _ (s : List ℕ) (l : Layout) (sound : Sound s l) where
 
 -- demand 2: the lists of rows that fit a side of an accepted file are the independent sets of a matroid
 pub file-matroid :
-    (s : List ℕ) (l : Layout) → reading s ≡ Accepted l → (side : ℕ) →
+    (f : Form) (s : List ℕ) (l : Layout) → reading f s ≡ Accepted l → (side : ℕ) →
     Matroid (l .rows) (Independent (networkOf s l) (limitOf s l) side)
-file-matroid s l e = sound-matroid s l (accepted-sound s l e)
+file-matroid f s l e = sound-matroid s l (accepted-sound f s l e)

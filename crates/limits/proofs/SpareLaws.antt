@@ -10,8 +10,7 @@
 --   unfit-side full-group  where it is left early
 --   told-spares            what the number means
 --   spare-value spare-selected spare-row   the answer for an accepted file, one law a case
---   spared-by              an answer that is as defined says what it means
---   spared-most            it has at most 65535 places
+--   spared-by              an answer that is as defined says what it means, and has at most 65535 places
 use mathlib.Core.Path.{_≡_, refl, sym, ap, _∙_, subst}
 use mathlib.Core.List.{List}
 use mathlib.Core.Bool.{true}
@@ -31,10 +30,12 @@ use Rattle.theory.specs.Formed.{Formed}
 use Rattle.theory.specs.Spare.{sparePlaces, HasPlaces}
 use Rattle.theory.proofs.TestLaws.{either, both-true}
 use Rattle.theory.proofs.SpareLaws.{spare-none, spare-unfit, spare-most, spare-places, spare-greatest, spares}
-use Rattle.claimfile.specs.Day.{countOf, groupOf, groupsOf, firstOf, limitOf, networkOf, instanceOf}
+use Rattle.claimfile.specs.Day.{countOf, groupOf, groupsOf, firstOf, writtenOf, limitOf, networkOf, instanceOf}
+use Rattle.claimfile.specs.declared.Form.{Form}
 use Rattle.claimfile.specs.declared.Layout.{Layout}
 use Rattle.claimfile.specs.declared.Group.{Group}
-use Rattle.claimfile.proofs.DayLaws.{each-node, limit-on, limit-small, sound-formed}
+use Rattle.claimfile.proofs.DayLaws.{side-room, each-node, written-on, limit-small, sound-formed}
+use Rattle.claimfile.proofs.StoredLaws.{stored-spare}
 use Rattle.refusal.specs.declared.Reason.{Reason}
 use Rattle.refusal.specs.declared.Reason.the-variants.{Value, Selected}
 use Rattle.refusal.proofs.TableLaws.{number-some}
@@ -43,12 +44,12 @@ use Rattle.limits.specs.declared.Entry.the-variants.{Entered, Turned}
 use Rattle.limits.specs.declared.Found.{Found}
 use Rattle.limits.specs.declared.Spare.{Spare}
 use Rattle.limits.specs.declared.Spare.the-variants as spare-is
-use Rattle.limits.specs.Answers.{SparesOn, entered, spareBy, spare, SpareNumbers, spareNumbers, Spared}
+use Rattle.limits.specs.Answers.{SparesOn, entered, spareBy, spare, spareNumbers, Spared}
 use Rattle.limits.specs.Ready.{Ready}
 use Rattle.limits.specs.Side.{limitIn, hangs, countsIn, FitsIn, Placed}
 use Rattle.limits.specs.Chain.{Chained}
 use Rattle.limits.proofs.ChainLaws.{up-own}
-use Rattle.limits.proofs.SideLaws.{side-room, side-node, side-fits, fits-side, both-on, both-load}
+use Rattle.limits.proofs.SideLaws.{side-node, group-node, node-group, both-on, both-load}
 use Rattle.limits.proofs.EntryLaws.{entering}
 
 module _ (s sel : List ℕ) (l : Layout) (x : ℕ) where
@@ -170,31 +171,38 @@ module _ (s sel : List ℕ) (l : Layout) (ready : Ready s sel l) (x : ℕ) (insi
   abbrev number : ℕ
   number = sparePlaces net (limitOf s l) (row sel) x
 
+  -- the same number by the written limits, which the code reads
+  abbrev by-written : ℕ
+  by-written = sparePlaces net (writtenOf s l) (row sel) x
+
+  same-number : by-written ≡ number
+  same-number = stored-spare s l (ready .sound) (row sel) x inside
+
   abbrev Fits : Type 0
-  Fits = FitsBoth net (limitOf s l) (row sel)
+  Fits = FitsBoth net (writtenOf s l) (row sel)
 
   rooms-places :
-      (k : ℕ) → ((side : ℕ) → RoomOn s sel l x side k) → HasPlaces (networkOf s l) (limitOf s l) (row sel) x k
+      (k : ℕ) → ((side : ℕ) → RoomOn s sel l x side k) → HasPlaces (networkOf s l) (writtenOf s l) (row sel) x k
   rooms-places k rooms =
       each-node s l
-      (λ v. onBoth (networkOf s l) x v ≡ 1 → load (l .rows) (onBoth (networkOf s l)) (row sel) v + k ≤ limitOf s l v)
+      (λ v. onBoth (networkOf s l) x v ≡ 1 → load (l .rows) (onBoth (networkOf s l)) (row sel) v + k ≤ writtenOf s l v)
       (λ side g m e.
       omega (
         arith,
         rooms side g m (sym (both-on s l (ready .sound) x inside side g m) ∙ e),
         both-load s l (ready .sound) (row sel) side g m,
-        limit-on s l side g m,
+        written-on s l side g m,
       ))
 
   places-rooms :
-      (k : ℕ) → HasPlaces (networkOf s l) (limitOf s l) (row sel) x k → (side : ℕ) → RoomOn s sel l x side k
+      (k : ℕ) → HasPlaces (networkOf s l) (writtenOf s l) (row sel) x k → (side : ℕ) → RoomOn s sel l x side k
   places-rooms k places side g m e =
       omega (
         arith,
         places (firstOf l side + g) (omega (arith, side-room l side))
             (both-on s l (ready .sound) x inside side g m ∙ e),
         both-load s l (ready .sound) (row sel) side g m,
-        limit-on s l side g m,
+        written-on s l side g m,
       )
 
   -- a side that is not the card side is the shop side
@@ -203,41 +211,43 @@ module _ (s sel : List ℕ) (l : Layout) (ready : Ready s sel l) (x : ℕ) (insi
   each-side k rooms (suc n) = rooms 1 (omega arith)
 
   fits-on : Fits → (side : ℕ) → FitsIn s l side (row sel)
-  fits-on f zero = fits-side s l (ready .sound) 0 (row sel) (f .0)
-  fits-on f (suc n) = fits-side s l (ready .sound) 1 (row sel) (f .1)
+  fits-on f zero = node-group s l (ready .sound) 0 (limitIn s l 0) (writtenOf s l) (written-on s l 0) (row sel) (f .0)
+  fits-on f (suc n) = node-group s l (ready .sound) 1 (limitIn s l 1) (writtenOf s l) (written-on s l 1) (row sel) (f .1)
 
   pub sides-end : (side n : ℕ) → 2 ≤ side → Sides s sel l x side n → n ≡ number
   sides-end side n all d =
-      spare-greatest net formed (limitOf s l) (row sel) x inside
+      spare-greatest net formed (writtenOf s l) (row sel) x inside
       (fits 0 (omega arith), fits 1 (omega arith))
       n (d .most)
       (rooms-places n (each-side n (λ t h. d .room t (omega arith))))
       (λ k h places. d .greatest k h (λ t b. places-rooms k places t))
+      ∙ same-number
     where
-      fits : (t : ℕ) → t < 2 → FitsSide net (limitOf s l) t (row sel)
-      fits t h = side-fits s l (ready .sound) t (row sel) (d .fits t (omega arith))
+      fits : (t : ℕ) → t < 2 → FitsSide net (writtenOf s l) t (row sel)
+      fits t h =
+          group-node s l (ready .sound) t (limitIn s l t) (writtenOf s l) (written-on s l t) (row sel) (d .fits t (omega arith))
 
   -- left where a side does not fit
   pub unfit-side : (side : ℕ) → ¬ FitsIn s l side (row sel) → 0 ≡ number
   unfit-side side unfit =
-      sym (spare-unfit net (limitOf s l) (row sel) x (λ f. unfit (fits-on f side)))
+      sym (spare-unfit net (writtenOf s l) (row sel) x (λ f. unfit (fits-on f side))) ∙ same-number
 
   -- left where a group has no place
   pub full-group :
       (side m : ℕ) (list : List ℕ) (r j n : ℕ) → Sides s sel l x side m → Chained s l side x list r → j ≤ r →
       Groups s sel l x side m list j n → n ≡ 0 → n ≡ number
   full-group side m list r j n before chained upto g none =
-      elim (either (fitsBoth net (limitOf s l) (row sel))) [
-        | inl e ↦ omega (arith, most (both-true net (limitOf s l) (row sel) e))
-        | inr e ↦ none ∙ sym (spare-none net (limitOf s l) (row sel) x e)
+      elim (either (fitsBoth net (writtenOf s l) (row sel))) [
+        | inl e ↦ omega (arith, most (both-true net (writtenOf s l) (row sel) e), same-number)
+        | inr e ↦ none ∙ sym (spare-none net (writtenOf s l) (row sel) x e) ∙ same-number
       ]
     where
-      most : Fits → number ≤ n
+      most : Fits → by-written ≤ n
       most f =
-          let rooms = places-rooms number
-          (spare-places net formed (limitOf s l) (row sel) x inside f number (le-refl number)) in
-          g .greatest number
-          (before .greatest number (spare-most net (limitOf s l) (row sel) x) (λ t b. rooms t))
+          let rooms = places-rooms by-written
+          (spare-places net formed (writtenOf s l) (row sel) x inside f by-written (le-refl by-written)) in
+          g .greatest by-written
+          (before .greatest by-written (spare-most net (writtenOf s l) (row sel) x) (λ t b. rooms t))
           (λ i b.
           let on = chained .lists .each i zero-le (omega arith) in
           rooms side (row list i) (on .0) (on .1))
@@ -259,9 +269,9 @@ module _ (s sel : List ℕ) (l : Layout) (ready : Ready s sel l) (x : ℕ) (insi
 -- The answer
 
 module _ (s sel : List ℕ) (x : ℕ) where
-  spare-by : (y : Entry) → entered s sel ≡ y → spare s sel x ≡ spareBy s sel x y
+  spare-by : (f : Form) (y : Entry) → entered f s sel ≡ y → spare f s sel x ≡ spareBy s sel x y
   unfolding spare
-  spare-by y e = ap (spareBy s sel x) e
+  spare-by f y e = ap (spareBy s sel x) e
 
   module _ (l : Layout) where
     pub spare-value : l .rows ≤ x → spare-is.Refused Value ≡ spareBy s sel x (Entered l)
@@ -276,13 +286,25 @@ module _ (s sel : List ℕ) (x : ℕ) where
           spare-is.Places n ≡ spareBy s sel x (Entered l)
       spare-row out n e = rw (lt-leb _ _ h, ne-eqb _ _ out) (ap spare-is.Places e)
 
-module _ (s sel : List ℕ) (bytes : (i : ℕ) → getD s i 0 < 256) (x : ℕ) (r : Spare) (is : r ≡ spare s sel x) where
+by-most : (s sel : List ℕ) (x : ℕ) (y : Entry) → spareNumbers (spareBy s sel x y) .places ≤ maxLimit
+by-most s sel x (Turned why) = zero-le
+by-most s sel x (Entered l) =
+    elim (either (leb (l .rows) x)) [
+      | inl e ↦ rw e zero-le
+      | inr e ↦
+          elim (either (eqb (row sel x) 1)) [
+            | inl q ↦ rw (e, q) zero-le
+            | inr q ↦ rw (e, q) (spare-most (networkOf s l) (limitOf s l) (row sel) x)
+          ]
+    ]
+
+module _ (f : Form) (s sel : List ℕ) (x : ℕ) (r : Spare) (is : r ≡ spare f s sel x) (bytes : (i : ℕ) → getD s i 0 < 256) where
   -- a refusal's number is not 0
   not-refused : {A : Type 0} (why : Reason) → spareNumbers r .number ≡ 0 → r ≡ spare-is.Refused why → A
   not-refused why none e = absurd (omega (arith, number-some why, ap (λ y. spareNumbers y .number) e))
 
   means-entered :
-      (l : Layout) → spareNumbers r .number ≡ 0 → entered s sel ≡ Entered l → Ready s sel l →
+      (l : Layout) → spareNumbers r .number ≡ 0 → entered f s sel ≡ Entered l → Ready s sel l →
       (row sel x ≡ 0) × SparesOn (instanceOf s l) sel x (spareNumbers r .places)
   means-entered l none e ready =
       elim (decLt x (l .rows)) [
@@ -299,38 +321,27 @@ module _ (s sel : List ℕ) (bytes : (i : ℕ) → getD s i 0 < 256) (x : ℕ) (
       ]
     where
       by : r ≡ spareBy s sel x (Entered l)
-      by = is ∙ spare-by s sel x (Entered l) e
+      by = is ∙ spare-by s sel x f (Entered l) e
 
-  spared : Spared s sel x r
+  small : spareNumbers r .places ≤ maxLimit
+  unfolding spare
+  small = omega (arith, ap (λ y. spareNumbers y .places) is, by-most s sel x (entered f s sel))
+
+  spared : Spared f s sel x r
   spared =
       record {
         is = is;
         numbers = ap spareNumbers is;
+        most = small;
         means = λ l e none.
-            elim (entering s sel l e) [
-              | inl q ↦ not-refused (q .0) none (is ∙ spare-by s sel x (Turned (q .0)) (q .1))
+            elim (entering f s sel l e) [
+              | inl q ↦ not-refused (q .0) none (is ∙ spare-by s sel x f (Turned (q .0)) (q .1))
               | inr q ↦ means-entered l none (q .0) (q .1)
             ];
       }
 
 -- the same of what the call answers: y is the entry that was found, z what it is
 pub spared-by :
-    (s sel : List ℕ) → ((i : ℕ) → getD s i 0 < 256) → (x : ℕ) (r : Spare) (y z : Entry) → y ≡ entered s sel → y ≡ z →
-    r ≡ spareBy s sel x z → Spared s sel x r
-spared-by s sel bytes x r y z e f is = spared s sel bytes x r (is ∙ sym (spare-by s sel x z (sym e ∙ f)))
-
-by-most : (s sel : List ℕ) (x : ℕ) (y : Entry) → spareNumbers (spareBy s sel x y) .places ≤ maxLimit
-by-most s sel x (Turned why) = zero-le
-by-most s sel x (Entered l) =
-    elim (either (leb (l .rows) x)) [
-      | inl e ↦ rw e zero-le
-      | inr e ↦
-          elim (either (eqb (row sel x) 1)) [
-            | inl q ↦ rw (e, q) zero-le
-            | inr q ↦ rw (e, q) (spare-most (networkOf s l) (limitOf s l) (row sel) x)
-          ]
-    ]
-
-pub spared-most : (s sel : List ℕ) (x : ℕ) (r : Spare) → Spared s sel x r → spareNumbers r .places ≤ maxLimit
-unfolding spare
-spared-most s sel x r a = omega (arith, ap (λ (n : SpareNumbers). n .places) (a .numbers), by-most s sel x (entered s sel))
+    (f : Form) (s sel : List ℕ) → ((i : ℕ) → getD s i 0 < 256) → (x : ℕ) (r : Spare) (y z : Entry) → y ≡ entered f s sel → y ≡ z →
+    r ≡ spareBy s sel x z → Spared f s sel x r
+spared-by f s sel bytes x r y z e q is = spared f s sel x r (is ∙ sym (spare-by s sel x f z (sym e ∙ q))) bytes

@@ -7,27 +7,29 @@
 --                          the selection is one of them; n is the size of a largest one within the selection, its rank
 --   Finds i sel side f     f is what is found on the side, and means that
 --   SparesOn i sel x n     n is how many further claims like row x would fit beside the selection, and what that means
--- Of a file:
+-- Of a file, in the form f:
 --   bits n sel             whether each of the first n bytes of a selection is 0 or 1
---   enteredBy sel reading, entered s sel    a file with a selection: turned away with the file's refusal, then 8, then 9, else
+--   enteredBy sel reading, entered f s sel  a file with a selection: turned away with the file's refusal, then 8, then 9, else
 --                          the file's layout
---   rankedBy s sel side entry, ranked s sel side     the answer of fits and rank
---   spareBy s sel x entry, spare s sel x             the answer of spare places
+--   rankedBy s sel side entry, ranked f s sel side   the answer of fits and rank
+--   spareBy s sel x entry, spare f s sel x           the answer of spare places
 --   RankedNumbers, SpareNumbers          document 01's number and values of an answer
 --   rankedNumbers r, spareNumbers r      these for each case of an answer: the refusal's number and zeros, or 0 with yes (1) or no (0)
 --                          and the rank, or 0 with the number of places
---   Answered s sel side r  r is the answer of fits and rank, in document 01's number and values too. Where no refusal is told of an
---                          accepted file, the values mean what `Told` says of the day that it holds
---   Spared s sel x r       the same of spare places: the row is not in the selection, and the number means what `Spares` says
+--   Answered f s sel side r    r is the answer of fits and rank, in document 01's number and values too; the rank is at most 512. Where no
+--                          refusal is told of an accepted file, the values mean what `Told` says of the day that it holds
+--   Spared f s sel x r     the same of spare places: at most 65535, the row is not in the selection, and the number means what
+--                          `Spares` says
 -- "Then 7, 8, 9": 8 for a selection that is shorter than needed; 9 for a selection byte over 1, a side over 1, a row not below N. Then 10,
 -- the row is already in the selection.
-use Prim.Native.Nat.{ℕ}
+use Prim.Native.Nat.{ℕ, _≤_}
 use mathlib.Core.Path.{_≡_}
 use mathlib.Core.List.{List}
 use mathlib.Core.Bool.{Bool, true, false}
 use mathlib.Core.Logic.{_↔_}
 use lib.ListN.{length}
 use lib.Dec.{ltb, leb, eqb}
+use Rattle.theory.specs.Bounds.{maxRows, maxLimit}
 use Rattle.theory.specs.Sum.{pick, every}
 use Rattle.theory.specs.Incidence.{fits}
 use Rattle.theory.specs.Matroid.{Matroid, Rank, row}
@@ -36,6 +38,7 @@ use Rattle.theory.specs.Network.{Instance, onSide, Independent}
 use Rattle.theory.specs.Spare.{sparePlaces, Spares}
 use Rattle.claimfile.specs.File.{reading}
 use Rattle.claimfile.specs.Day.{limitOf, networkOf, instanceOf}
+use Rattle.claimfile.specs.declared.Form.{Form}
 use Rattle.claimfile.specs.declared.Layout.{Layout}
 use Rattle.claimfile.specs.declared.Reading.{Reading}
 use Rattle.claimfile.specs.declared.Reading.the-variants as reading-is
@@ -85,8 +88,8 @@ enteredBy sel (reading-is.Refused why) = Turned (File why)
 enteredBy sel (reading-is.Accepted l) =
     pick (ltb (length sel) (l .rows)) (Turned Short) (pick (bits (l .rows) sel) (Entered l) (Turned Value))
 
-unfoldable pub entered : List ℕ → List ℕ → Entry
-entered s sel = enteredBy sel (reading s)
+unfoldable pub entered : Form → List ℕ → List ℕ → Entry
+entered f s sel = enteredBy sel (reading f s)
 
 --------------------------------------------------------------------------------
 -- The answers
@@ -98,8 +101,8 @@ rankedBy s sel side (Entered l) =
     (ranked-is.Refused Value)
     (ranked-is.Told (foundOn (instanceOf s l) sel side .fits) (foundOn (instanceOf s l) sel side .rank))
 
-unfoldable pub ranked : List ℕ → List ℕ → ℕ → Ranked
-ranked s sel side = rankedBy s sel side (entered s sel)
+unfoldable pub ranked : Form → List ℕ → List ℕ → ℕ → Ranked
+ranked f s sel side = rankedBy s sel side (entered f s sel)
 
 abbrev pub spareBy : List ℕ → List ℕ → ℕ → Entry → Spare
 spareBy s sel x (Turned why) = spare-is.Refused why
@@ -110,8 +113,8 @@ spareBy s sel x (Entered l) =
     (spare-is.Refused Selected)
     (spare-is.Places (sparePlaces (networkOf s l) (limitOf s l) (row sel) x)))
 
-unfoldable pub spare : List ℕ → List ℕ → ℕ → Spare
-spare s sel x = spareBy s sel x (entered s sel)
+unfoldable pub spare : Form → List ℕ → List ℕ → ℕ → Spare
+spare f s sel x = spareBy s sel x (entered f s sel)
 
 pub record RankedNumbers : Type 0 where
   pub number : ℕ
@@ -130,16 +133,18 @@ abbrev pub spareNumbers : Spare → SpareNumbers
 spareNumbers (spare-is.Places n) = record { number = 0; places = n }
 spareNumbers (spare-is.Refused why) = record { number = numberOf why; places = 0 }
 
-pub record Answered (s sel : List ℕ) (side : ℕ) (r : Ranked) : Type 0 where
-  pub is : r ≡ ranked s sel side
-  pub numbers : rankedNumbers r ≡ rankedNumbers (ranked s sel side)
+pub record Answered (f : Form) (s sel : List ℕ) (side : ℕ) (r : Ranked) : Type 0 where
+  pub is : r ≡ ranked f s sel side
+  pub numbers : rankedNumbers r ≡ rankedNumbers (ranked f s sel side)
+  pub most : rankedNumbers r .rank ≤ maxRows
   pub means :
-      (l : Layout) → reading s ≡ reading-is.Accepted l → rankedNumbers r .number ≡ 0 →
+      (l : Layout) → reading f s ≡ reading-is.Accepted l → rankedNumbers r .number ≡ 0 →
       Told (instanceOf s l) sel side (rankedNumbers r .fits) (rankedNumbers r .rank)
 
-pub record Spared (s sel : List ℕ) (x : ℕ) (r : Spare) : Type 0 where
-  pub is : r ≡ spare s sel x
-  pub numbers : spareNumbers r ≡ spareNumbers (spare s sel x)
+pub record Spared (f : Form) (s sel : List ℕ) (x : ℕ) (r : Spare) : Type 0 where
+  pub is : r ≡ spare f s sel x
+  pub numbers : spareNumbers r ≡ spareNumbers (spare f s sel x)
+  pub most : spareNumbers r .places ≤ maxLimit
   pub means :
-      (l : Layout) → reading s ≡ reading-is.Accepted l → spareNumbers r .number ≡ 0 →
+      (l : Layout) → reading f s ≡ reading-is.Accepted l → spareNumbers r .number ≡ 0 →
       (row sel x ≡ 0) × SparesOn (instanceOf s l) sel x (spareNumbers r .places)

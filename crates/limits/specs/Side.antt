@@ -2,7 +2,7 @@
 --   parentBy G u h         the parent of group h of G groups, by the number u in its record: one that is no smaller group stands
 --                          for the root, which is G
 --   parentIn s l side h    the parent of group h of a side
---   limitIn s l side h     its limit
+--   limitIn s l side h     the limit in its record
 --   upIn s l side g h      1 where group h is g, its parent, and so on up to the top, else 0
 --   hangs s l side c       the group where row c hangs on a side
 --   countsIn s l side c h  1 where row c counts in group h, else 0
@@ -14,7 +14,8 @@
 --   PassedOn s l side k next g r   what came to group g, but no more than its limit, was passed on; r says whether that was all
 --   Named s l side X k     each group counts the rows of X that hang at it
 --   Begun s l side k       it does so for some rows
---   FitsIn s l side X      no group of the side counts more rows of X than its limit
+--   FitsBy s l side limit X    no group of the side counts more rows of X than `limit` gives
+--   FitsIn s l side X      the same of the written limits: what fits these fits the lowered ones (`side-fits`, proofs/SideLaws.antt)
 --   Lifted s l side X next f   the rows X have risen: f tells their rank and whether they fit, and where they do, each group counts
 --                          the rows that count in it
 --   Rose s l side k next f     the same for whatever rows were counted
@@ -88,8 +89,11 @@ pub record Begun (s : List ℕ) (l : Layout) (side : ℕ) (k : List ℕ) : Type 
   pub chosen : ℕ → ℕ
   pub named : Named s l side chosen k
 
+abbrev pub FitsBy : List ℕ → Layout → ℕ → (ℕ → ℕ) → (ℕ → ℕ) → Type 0
+FitsBy s l side limit X = Fits (l .rows) (countOf l side) (countsIn s l side) limit X
+
 abbrev pub FitsIn : List ℕ → Layout → ℕ → (ℕ → ℕ) → Type 0
-FitsIn s l side X = Fits (l .rows) (countOf l side) (countsIn s l side) (limitIn s l side) X
+FitsIn s l side X = FitsBy s l side (limitIn s l side) X
 
 pub record Lifted (s : List ℕ) (l : Layout) (side : ℕ) (X : ℕ → ℕ) (next : List ℕ) (f : Found) : Type 0 where
   pub rank : Rank (l .rows) (λ Y. Selection (l .rows) Y × FitsIn s l side Y) X (f .rank)

@@ -4,6 +4,7 @@
 // Each selected row is counted at the group that it names. Then the rows rise, from the last group to the first: a group passes on to
 // its parent as many as came to it, but no more than its limit. Since each parent has a smaller number, all that comes to a group has
 // come when its turn is. What comes to the top is the rank, and the selection fits where each group passed on all that came to it.
+// A stored file's limits are read as they are written: what fits these fits the lowered ones, with the same rank and spare places.
 // The cost is rows + groups; the memory is one count for each group of one side, and one for the top.
 // For the spare places of a row, a walk through the parents, from the group where the row hangs, lists the groups that it counts in. It
 // takes tables of fixed length and two numbers, and its own call comes last, so that a compiler can make it a loop: a deep chain of
@@ -12,6 +13,7 @@ ghost use mathlib.Core.Path.{_≡_};
 ghost use Prim.Native.Nat.{_+_, _-_, min, _<_, _≤_};
 ghost use lib.ListN.{length};
 ghost use Rattle.theory.specs.Bounds.{maxGroups};
+ghost use Rattle.claimfile.specs.File.{newFile, storedFile};
 ghost use Rattle.claimfile.specs.Day.{instanceOf};
 ghost use Rattle.claimfile.specs.Sound.{Sound};
 ghost use Rattle.claimfile.specs.declared.Reading.the-variants.{Accepted};
@@ -19,6 +21,7 @@ ghost use Rattle.limits.specs.Answers.{bits, enteredBy, entered, Finds, 
 ghost use Rattle.limits.specs.Ready.{Ready};
 ghost use Rattle.limits.specs.Side.{parentBy, hangs, Zero, Counted, Passes, PassedOn, Begun, Rose, Placed};
 ghost use Rattle.limits.specs.Chain.{Ups, Climbed, Chained};
+use claimfile::Form;
 use claimfile::Layout;
 use claimfile::Reading;
 use claimfile::claim_of;
@@ -276,21 +279,21 @@ fn judge(layout: Layout, selection: &[u8]) -> Entry
 }
 
 // Reads a file and judges a selection of its rows.
-fn enter(file: &[u8], selection: &[u8]) -> Entry
-    ensures { λ r. ⌜ r ≡ entered (now (file .entry)) (now (selection .entry)) ⌝ }
+fn enter(file: &[u8], form: Form, selection: &[u8]) -> Entry
+    ensures { λ r. ⌜ r ≡ entered form (now (file .entry)) (now (selection .entry)) ⌝ }
 {
-    let reading = read(file);
+    let reading = read(file, form);
     match reading {
         Reading::Refused(why) => Entry::Turned(Reason::File(why)),
         Reading::Accepted(layout) => judge(layout, selection),
     }
 }
 
-// Whether a selection fits a side (0 card, 1 shop), and its rank there.
-pub fn fits_and_rank(file: &[u8], selection: &[u8], side: usize) -> Ranked
-    ensures { λ r. ⌜ Answered (now (file .entry)) (now (selection .entry)) side r ⌝ }
+// Whether a selection fits a side (0 card, 1 shop), and its rank there, for a file in a form.
+fn fits_and_rank_as(file: &[u8], form: Form, selection: &[u8], side: usize) -> Ranked
+    ensures { λ r. ⌜ Answered form (now (file .entry)) (now (selection .entry)) side r ⌝ }
 {
-    let entry = enter(file, selection);
+    let entry = enter(file, form, selection);
     match entry {
         Entry::Turned(why) => Ranked::Refused(why),
         Entry::Entered(layout) => {
@@ -306,11 +309,25 @@ pub fn fits_and_rank(file: &[u8], selection: &[u8], side: usize) -> Ranked
     }
 }
 
-// How many further claims like the row would fit beside a selection that does not hold it.
-pub fn spare_places(file: &[u8], selection: &[u8], row: usize) -> Spare
-    ensures { λ r. ⌜ Spared (now (file .entry)) (now (selection .entry)) row r ⌝ }
+// Whether a selection fits a side (0 card, 1 shop), and its rank there.
+pub fn fits_and_rank(file: &[u8], selection: &[u8], side: usize) -> Ranked
+    ensures { λ r. ⌜ Answered newFile (now (file .entry)) (now (selection .entry)) side r ⌝ }
 {
-    let entry = enter(file, selection);
+    fits_and_rank_as(file, Form { stored: false }, selection, side)
+}
+
+// The same for a stored file.
+pub fn fits_and_rank_stored(file: &[u8], selection: &[u8], side: usize) -> Ranked
+    ensures { λ r. ⌜ Answered storedFile (now (file .entry)) (now (selection .entry)) side r ⌝ }
+{
+    fits_and_rank_as(file, Form { stored: true }, selection, side)
+}
+
+// How many further claims like the row would fit beside a selection that does not hold it, for a file in a form.
+fn spare_places_as(file: &[u8], form: Form, selection: &[u8], row: usize) -> Spare
+    ensures { λ r. ⌜ Spared form (now (file .entry)) (now (selection .entry)) row r ⌝ }
+{
+    let entry = enter(file, form, selection);
     match entry {
         Entry::Turned(why) => Spare::Refused(why),
         Entry::Entered(layout) => {
@@ -323,4 +340,18 @@ pub fn spare_places(file: &[u8], selection: &[u8], row: usize) -> Spare
             Spare::Places(spare_on(file, layout, row, selection))
         }
     }
+}
+
+// How many further claims like the row would fit beside a selection that does not hold it.
+pub fn spare_places(file: &[u8], selection: &[u8], row: usize) -> Spare
+    ensures { λ r. ⌜ Spared newFile (now (file .entry)) (now (selection .entry)) row r ⌝ }
+{
+    spare_places_as(file, Form { stored: false }, selection, row)
+}
+
+// The same for a stored file.
+pub fn spare_places_stored(file: &[u8], selection: &[u8], row: usize) -> Spare
+    ensures { λ r. ⌜ Spared storedFile (now (file .entry)) (now (selection .entry)) row r ⌝ }
+{
+    spare_places_as(file, Form { stored: true }, selection, row)
 }

@@ -12,19 +12,28 @@ fn before(g: usize) -> usize {
     g - 1
 }
 
-// The limit of group `g`: none that matters, but for group `tight`.
-fn limit_of(g: usize, tight: usize, limit: usize) -> usize {
-    if g == tight {
-        return limit;
+// The limits of a chain: `limit` for group `tight` and `below` for those beneath it; none that matters for those above.
+pub struct Limits {
+    pub tight: usize,
+    pub limit: usize,
+    pub below: usize,
+}
+
+fn limit_of(g: usize, limits: Limits) -> usize {
+    if g < limits.tight {
+        return TOP;
     }
-    TOP
+    if g == limits.tight {
+        return limits.limit;
+    }
+    limits.below
 }
 
 // A section of `count` groups, each above the next. Answers the place behind it.
-fn chain(count: usize, tight: usize, limit: usize, buf: &mut [u8]) -> usize {
+fn chain(count: usize, limits: Limits, buf: &mut [u8]) -> usize {
     let mut next = put(0, count, buf);
     for g in 0..count {
-        next = put_group(next, before(g), limit_of(g, tight, limit), buf);
+        next = put_group(next, before(g), limit_of(g, limits), buf);
     }
     next
 }
@@ -40,8 +49,8 @@ fn claims(at: usize, card: usize, buf: &mut [u8]) -> usize {
 
 // A day of such a chain of card groups, one shop group at the top with limit 4, and six claims of the last card group. Answers its
 // length.
-pub fn deep(count: usize, tight: usize, limit: usize, buf: &mut [u8]) -> usize {
-    let after_cards = chain(count, tight, limit, buf);
+pub fn deep(count: usize, limits: Limits, buf: &mut [u8]) -> usize {
+    let after_cards = chain(count, limits, buf);
     let shop = put(after_cards, 1, buf);
     let after_shops = put_group(shop, TOP, 4, buf);
     claims(after_shops, before(count), buf)

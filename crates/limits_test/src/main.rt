@@ -2,6 +2,7 @@
 mod build;
 mod tell;
 
+use build::Limits;
 use build::deep;
 use casebook::files::DAY_A;
 use casebook::files::DAY_B;
@@ -16,8 +17,13 @@ use casebook::files::EXAMPLE_7;
 use casebook::files::space;
 use casebook::line::number;
 use casebook::line::text;
+use claimfile::TOP;
 use tell::ranked;
+use tell::ranked_both;
+use tell::ranked_stored;
 use tell::spare;
+use tell::spare_both;
+use tell::spare_stored;
 
 const CARD: usize = 0;
 
@@ -115,14 +121,20 @@ fn day_e() {
 }
 
 fn day_b(name: &[u8], selection: &[u8], side: usize) {
-    ranked(name, &DAY_B, selection, side);
+    ranked_stored(name, &DAY_B, selection, side);
 }
 
 fn spare_b(name: &[u8], selection: &[u8], row: usize) {
-    spare(name, &DAY_B, selection, row);
+    spare_stored(name, &DAY_B, selection, row);
 }
 
-// Shop group 0 has limit 2 and stands over group 1 with limit 5 and group 2 with limit 1; each row has a card group of limit 1.
+// As a new file day B is turned away, before its selection is judged.
+fn day_b_new() {
+    faulty(b"day B, new", &DAY_B);
+}
+
+// Shop group 0 has limit 2 and stands over group 1 with limit 5, which is lowered to 2, and group 2 with limit 1; each row has a card
+// group of limit 1.
 fn spare_on_day_b() {
     spare_b(b"day B, row 2 beside none", b"\x00\x00\x00", 2);
     spare_b(b"day B, row 2 beside row 1", b"\x00\x01\x00", 2);
@@ -138,33 +150,49 @@ fn day_b_selections() {
     day_b(b"day B, rows 1 and 2, shop", b"\x00\x01\x01", SHOP);
 }
 
-// The first `n` bytes of a buffer.
+// The first `n` bytes of a buffer, as a new file and as a stored one.
 fn show(buf: &[u8], n: usize, selection: &[u8], side: usize) {
     if n <= buf.len() {
-        ranked(b"", &buf[..n], selection, side);
+        ranked_both(&buf[..n], selection, side);
     }
 }
 
 // The spare places of the last of six rows beside the first two.
 fn show_spare(buf: &[u8], n: usize) {
     if n <= buf.len() {
-        spare(b"", &buf[..n], b"\x01\x01\x00\x00\x00\x00", 5);
+        spare_both(&buf[..n], b"\x01\x01\x00\x00\x00\x00", 5);
     }
 }
 
 // Six rows at the end of a chain: the limit of one group above them is what counts, or that of their shop group.
-fn chain_case(count: usize, tight: usize, limit: usize) {
+fn chain_under(count: usize, tight: usize, limit: usize, below: usize) {
     let mut buf = space();
-    let n = deep(count, tight, limit, &mut buf);
+    let n = deep(
+        count,
+        Limits {
+            tight,
+            limit,
+            below,
+        },
+        &mut buf,
+    );
     text(b"chain of");
     number(count);
     text(b", group");
     number(tight);
     text(b" with limit");
     number(limit);
+    text(b", below it");
+    number(below);
     show(&buf, n, b"\x01\x01\x01\x01\x01\x01", CARD);
     text(b"beside two of them");
     show_spare(&buf, n);
+}
+
+// With limits above that of the group, which a stored file may have, and with these lowered by hand.
+fn chain_case(count: usize, tight: usize, limit: usize) {
+    chain_under(count, tight, limit, TOP);
+    chain_under(count, tight, limit, limit);
 }
 
 fn chains() {
@@ -179,7 +207,15 @@ fn chains() {
 
 fn chain_shop() {
     let mut buf = space();
-    let n = deep(256, 0, 1, &mut buf);
+    let n = deep(
+        256,
+        Limits {
+            tight: 0,
+            limit: 1,
+            below: 1,
+        },
+        &mut buf,
+    );
     text(b"chain of 256, shop");
     show(&buf, n, b"\x01\x01\x01\x00\x01\x01", SHOP);
 }
@@ -191,6 +227,7 @@ fn main() {
     spare_on_day_a();
     faulty_files();
     day_e();
+    day_b_new();
     day_b_selections();
     spare_on_day_b();
     chains();

@@ -5,7 +5,9 @@ use casebook::line::text;
 use limits::Ranked;
 use limits::Spare;
 use limits::fits_and_rank;
+use limits::fits_and_rank_stored;
 use limits::spare_places;
+use limits::spare_places_stored;
 
 fn told(fits: bool, rank: usize) {
     if fits {
@@ -17,14 +19,29 @@ fn told(fits: bool, rank: usize) {
     text(b"\n");
 }
 
-// The name and the answer of fits and rank.
-pub fn ranked(name: &[u8], file: &[u8], selection: &[u8], side: usize) {
-    text(name);
-    let answer = fits_and_rank(file, selection, side);
+fn ranked_answer(answer: Ranked) {
     match answer {
         Ranked::Told { fits, rank } => told(fits, rank),
         Ranked::Refused(why) => refused(why),
     }
+}
+
+// The name and the answer of fits and rank.
+pub fn ranked(name: &[u8], file: &[u8], selection: &[u8], side: usize) {
+    text(name);
+    ranked_answer(fits_and_rank(file, selection, side));
+}
+
+// The same for a stored file.
+pub fn ranked_stored(name: &[u8], file: &[u8], selection: &[u8], side: usize) {
+    text(name);
+    ranked_answer(fits_and_rank_stored(file, selection, side));
+}
+
+// Both answers, for a name that is written already.
+pub fn ranked_both(file: &[u8], selection: &[u8], side: usize) {
+    ranked(b"", file, selection, side);
+    ranked_stored(b"stored", file, selection, side);
 }
 
 fn places(count: usize) {
@@ -33,12 +50,27 @@ fn places(count: usize) {
     text(b"\n");
 }
 
-// The name and the answer of spare places.
-pub fn spare(name: &[u8], file: &[u8], selection: &[u8], row: usize) {
-    text(name);
-    let answer = spare_places(file, selection, row);
+fn spare_answer(answer: Spare) {
     match answer {
         Spare::Places(count) => places(count),
         Spare::Refused(why) => refused(why),
     }
+}
+
+// The name and the answer of spare places.
+pub fn spare(name: &[u8], file: &[u8], selection: &[u8], row: usize) {
+    text(name);
+    spare_answer(spare_places(file, selection, row));
+}
+
+// The same for a stored file.
+pub fn spare_stored(name: &[u8], file: &[u8], selection: &[u8], row: usize) {
+    text(name);
+    spare_answer(spare_places_stored(file, selection, row));
+}
+
+// Both answers, for a name that is written already.
+pub fn spare_both(file: &[u8], selection: &[u8], row: usize) {
+    spare(b"", file, selection, row);
+    spare_stored(b"stored", file, selection, row);
 }

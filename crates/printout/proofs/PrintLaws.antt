@@ -12,7 +12,7 @@ use Rattle.theory.specs.Priority.{kept}
 use Rattle.claimfile.specs.declared.Layout.{Layout}
 use Rattle.claimfile.specs.declared.Refusal.{Refusal}
 use Rattle.claimfile.specs.declared.Reading.the-variants as reading-is
-use Rattle.claimfile.specs.File.{reading}
+use Rattle.claimfile.specs.File.{newFile, reading}
 use Rattle.claimfile.specs.Day.{instanceOf}
 use Rattle.claimfile.proofs.AcceptedLaws.{one-layout, one-refusal, not-both}
 use Rattle.refusal.specs.declared.Reason.{Reason}
@@ -89,26 +89,26 @@ module _
 
 module _ (s ch sheet t out out′ : List ℕ) (n : ℕ) where
   pub prints-refused :
-      (why : Refusal) → reading s ≡ reading-is.Refused why → Written (refusedText (numberOf (File why))) out out′ n →
+      (why : Refusal) → reading newFile s ≡ reading-is.Refused why → Written (refusedText (numberOf (File why))) out out′ n →
       Prints s ch sheet t out ch sheet t out′ n
   prints-refused why is w = record {
     within = w .within;
     counted = w .counted;
     refused = λ v p. (
-      subst (λ (x : Refusal). Written (refusedText (numberOf (File x))) out out′ n) (one-refusal (reading s) why v is p) w,
+      subst (λ (x : Refusal). Written (refusedText (numberOf (File x))) out out′ n) (one-refusal (reading newFile s) why v is p) w,
       record { choices = refl; sheets = refl; cells = refl },
     );
-    printed = λ l p. not-both (reading s) l why p is;
+    printed = λ l p. not-both (reading newFile s) l why p is;
   }
 
   pub prints-accepted :
-      (ch′ sheet′ t′ : List ℕ) (l : Layout) → reading s ≡ reading-is.Accepted l →
+      (ch′ sheet′ t′ : List ℕ) (l : Layout) → reading newFile s ≡ reading-is.Accepted l →
       PrintsOn (instanceOf s l) ch sheet t out ch′ sheet′ t′ out′ n → Prints s ch sheet t out ch′ sheet′ t′ out′ n
   prints-accepted ch′ sheet′ t′ l is P = record {
     within = P .within;
     counted = P .counted;
-    refused = λ why p. not-both (reading s) l why is p;
+    refused = λ why p. not-both (reading newFile s) l why is p;
     printed = λ k p.
         subst (λ (x : Layout). PrintsOn (instanceOf s x) ch sheet t out ch′ sheet′ t′ out′ n)
-        (one-layout (reading s) l k is p) P;
+        (one-layout (reading newFile s) l k is p) P;
   }

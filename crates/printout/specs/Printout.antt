@@ -15,7 +15,7 @@ use Rattle.theory.specs.Priority.{kept, weightOf}
 use Rattle.claimfile.specs.declared.Layout.{Layout}
 use Rattle.claimfile.specs.declared.Refusal.{Refusal}
 use Rattle.claimfile.specs.declared.Reading.the-variants.{Accepted, Refused}
-use Rattle.claimfile.specs.File.{reading}
+use Rattle.claimfile.specs.File.{newFile, reading}
 use Rattle.claimfile.specs.Day.{instanceOf}
 use Rattle.refusal.specs.declared.Reason.the-variants.{File, Short}
 use Rattle.refusal.specs.Table.{numberOf}
@@ -45,7 +45,7 @@ pub record Prints (s ch sheet t out ch′ sheet′ t′ out′ : List ℕ) (n : 
   pub within : n ≤ length out′
   pub counted : n ≡ length (take n out′)
   pub refused :
-      (why : Refusal) → reading s ≡ Refused why →
+      (why : Refusal) → reading newFile s ≡ Refused why →
       Written (refusedText (numberOf (File why))) out out′ n × Untouched ch sheet t ch′ sheet′ t′
   pub printed :
-      (l : Layout) → reading s ≡ Accepted l → PrintsOn (instanceOf s l) ch sheet t out ch′ sheet′ t′ out′ n
+      (l : Layout) → reading newFile s ≡ Accepted l → PrintsOn (instanceOf s l) ch sheet t out ch′ sheet′ t′ out′ n

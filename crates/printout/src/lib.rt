@@ -1,7 +1,8 @@
-// What `settle` prints for a claim file, written into a lent buffer.
+// What `settle` prints for a new claim file, written into a lent buffer.
 ghost use Rattle.claimfile.specs.Day.{instanceOf};
 ghost use Rattle.claimfile.specs.Sound.{Sound};
 ghost use Rattle.printout.specs.Printout.{PrintsOn, Prints};
+use claimfile::Form;
 use claimfile::Layout;
 use claimfile::Reading;
 use claimfile::read;
@@ -50,7 +51,7 @@ pub fn print_day(
 ) -> usize
     ensures { λ r. ⌜ Prints (now (file .entry)) (now (choice .entry)) (now (sheet .entry)) (now (scratch .entry)) (now (out .entry)) (now (choice .exit)) (now (sheet .exit)) (now (scratch .exit)) (now (out .exit)) r ⌝ }
 {
-    let reading = read(file);
+    let reading = read(file, Form { stored: false });
     match reading {
         Reading::Refused(why) => write_refused(number(Reason::File(why)), out),
         Reading::Accepted(layout) => print_on(file, layout, choice, sheet, scratch, out),

@@ -4,7 +4,8 @@
 use Prim.Native.Nat.{_<_}
 use native.Mathlib.Omega.{arith}
 use Rattle.claimfile.specs.declared.Refusal.{Refusal}
-use Rattle.claimfile.specs.declared.Refusal.the-variants.{CutOff, GroupCount, Parent, ClaimCount, NoSuchGroup, Kind, Trailing}
+use Rattle.claimfile.specs.declared.Refusal.the-variants.{CutOff, GroupCount, Parent, ClaimCount, NoSuchGroup}
+use Rattle.claimfile.specs.declared.Refusal.the-variants.{Kind, Trailing, LimitAbove}
 use Rattle.refusal.specs.declared.Reason.{Reason}
 use Rattle.refusal.specs.declared.Reason.the-variants.{File, Short, Value, Selected}
 use Rattle.refusal.specs.Table.{fileNumber, numberOf}
@@ -17,6 +18,7 @@ file-some ClaimCount = omega arith
 file-some NoSuchGroup = omega arith
 file-some Kind = omega arith
 file-some Trailing = omega arith
+file-some LimitAbove = omega arith
 
 pub number-some : (why : Reason) → 0 < numberOf why
 number-some (File why) = file-some why
@@ -32,6 +34,7 @@ file-most ClaimCount = omega arith
 file-most NoSuchGroup = omega arith
 file-most Kind = omega arith
 file-most Trailing = omega arith
+file-most LimitAbove = omega arith
 
 pub number-most : (why : Reason) → numberOf why < 100
 number-most (File why) = file-most why

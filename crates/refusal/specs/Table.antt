@@ -1,9 +1,10 @@
 -- Document 01's table of refusals ("Turned-away files"), with the numbers that document 02 adds.
---   fileNumber why         the number of a fault of the file, 1 to 7
+--   fileNumber why         the number of a fault of the file, 1 to 7 and 11
 --   numberOf why           the number of each reason why a call is turned away
 use Prim.Native.Nat.{ℕ}
 use Rattle.claimfile.specs.declared.Refusal.{Refusal}
-use Rattle.claimfile.specs.declared.Refusal.the-variants.{CutOff, GroupCount, Parent, ClaimCount, NoSuchGroup, Kind, Trailing}
+use Rattle.claimfile.specs.declared.Refusal.the-variants.{CutOff, GroupCount, Parent, ClaimCount, NoSuchGroup}
+use Rattle.claimfile.specs.declared.Refusal.the-variants.{Kind, Trailing, LimitAbove}
 use Rattle.refusal.specs.declared.Reason.{Reason}
 use Rattle.refusal.specs.declared.Reason.the-variants.{File, Short, Value, Selected}
 
@@ -22,6 +23,8 @@ fileNumber NoSuchGroup = 5
 fileNumber Kind = 6
 -- "bytes follow the last claim"
 fileNumber Trailing = 7
+-- "a group's limit is above its parent's"
+fileNumber LimitAbove = 11
 
 abbrev pub numberOf : Reason → ℕ
 numberOf (File why) = fileNumber why

@@ -31,6 +31,7 @@ fn file_number(why: Refusal) -> u32
         Refusal::NoSuchGroup => 5,
         Refusal::Kind => 6,
         Refusal::Trailing => 7,
+        Refusal::LimitAbove => 11,
     }
 }
 

@@ -1,5 +1,6 @@
 // Writes day A's text, a longer day's with the largest total, the texts of refused files with numbers around the powers of 10, and
 // then what comes of a buffer of just the length of day A's text, of one cell more and of one cell less.
+use claimfile::Form;
 use claimfile::Reading;
 use claimfile::read;
 use report::write_closed;
@@ -18,7 +19,7 @@ fn text_of(
 ) -> usize
     ensures { λ r. ⌜ Counts r (now (out .exit)) ⌝ }
 {
-    let reading = read(file);
+    let reading = read(file, Form { stored: false });
     let Reading::Accepted(layout) = reading else {
         return 0;
     };

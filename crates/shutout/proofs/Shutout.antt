@@ -1,6 +1,5 @@
 -- Versions of settle that document 01 shuts out ("What the contracts must nail", 2), each by what settle promises of a closed day (`Closes`)
 -- and by the table of worked days, whatever the program is.
---   dayOf k                day k of the table, counted from 0: A is 0, F is 5
 --   AsStated d n ch a      the choice and the counts of a day with n rows are those that the table states
 --   as-stated              they are, wherever a day of the table is closed
 --   On day A:
@@ -24,7 +23,7 @@ use Rattle.claimfile.specs.declared.Layout.{Layout}
 use Rattle.claimfile.specs.declared.Reading.{Reading}
 use Rattle.claimfile.specs.declared.Reading.the-variants.{Accepted, Refused}
 use Rattle.claimfile.specs.declared.Refusal.the-variants.{CutOff}
-use Rattle.claimfile.specs.File.{groupFault, claimFault, recordsFrom, countFault, sectionAt, claimsAt, reading}
+use Rattle.claimfile.specs.File.{newFile, groupFault, claimFault, recordsFrom, countFault, sectionAt, claimsAt, reading}
 use Rattle.claimfile.specs.Day.{instanceOf}
 use Rattle.claimfile.proofs.AcceptedLaws.{accepted-sound}
 use Rattle.closing.specs.declared.Totals.{Totals}
@@ -32,15 +31,10 @@ use Rattle.closing.specs.Settle.{needed, markOf, claimMarkOf, Closes}
 use Rattle.closing.proofs.SettleLaws.{kinds-two, day-formed}
 use Rattle.closing.proofs.AnswerLaws.{best-earned, best-rows}
 use Rattle.closing.proofs.Demand.{total-counts}
-use Rattle.days.specs.Days.{Day, days}
+use Rattle.days.specs.Days.{Day, dayOf}
 use Rattle.days.specs.Worked.{Outcome, settled, afterReading, worked, stated}
 use Rattle.days.specs.Worked.Outcome.{refused, closed}
 use Rattle.days.proofs.DaysLaws.{days-hold}
-
-abbrev pub dayOf : ℕ → Day
-dayOf k =
-    getD days k
-    (record { file = []; settle = record { choice = []; earned = 0; kept = 0; total = 0 }; sheet = []; questions = [] })
 
 pub record AsStated (d : Day) (n : ℕ) (ch : List ℕ) (a : Totals) : Type 0 where
   pub choice : (c : ℕ) → c < n → row ch c ≡ row (d .settle .choice) c
@@ -64,7 +58,7 @@ rowsIn (Refused why) = 0
 rowsIn (Accepted l) = l .rows
 
 module _
-    (d : Day) (held : worked d ≡ stated d) (l : Layout) (is : reading (d .file) ≡ Accepted l)
+    (d : Day) (held : worked d ≡ stated d) (l : Layout) (is : reading (d .form) (d .file) ≡ Accepted l)
     (ch sheet t ch′ sheet′ t′ : List ℕ) (a : Totals) (C : Closes (instanceOf (d .file) l) ch sheet t ch′ sheet′ t′ a)
   where
     on : settled (instanceOf (d .file) l) d ≡ stated d
@@ -98,7 +92,7 @@ zero-total i ch sheet t ch′ sheet′ t′ a C zero =
 -- Day A
 
 module _
-    (l : Layout) (is : reading (dayOf 0 .file) ≡ Accepted l) (ch sheet t ch′ sheet′ t′ : List ℕ) (a : Totals)
+    (l : Layout) (is : reading newFile (dayOf 0 .file) ≡ Accepted l) (ch sheet t ch′ sheet′ t′ : List ℕ) (a : Totals)
     (C : Closes (instanceOf (dayOf 0 .file) l) ch sheet t ch′ sheet′ t′ a)
   where
     stated-a : AsStated (dayOf 0) (l .rows) ch′ a
@@ -120,7 +114,7 @@ module _
 
     pub total-a : a .total ≡ 4
     total-a =
-        let sound = accepted-sound (dayOf 0 .file) l is in
+        let sound = accepted-sound newFile (dayOf 0 .file) l is in
         let i = instanceOf (dayOf 0 .file) l in
         omega (
           arith,
@@ -141,7 +135,7 @@ module _
 -- Day F
 
 module _
-    (l : Layout) (is : reading (dayOf 5 .file) ≡ Accepted l) (ch sheet t ch′ sheet′ t′ : List ℕ) (a : Totals)
+    (l : Layout) (is : reading newFile (dayOf 5 .file) ≡ Accepted l) (ch sheet t ch′ sheet′ t′ : List ℕ) (a : Totals)
     (C : Closes (instanceOf (dayOf 5 .file) l) ch sheet t ch′ sheet′ t′ a)
   where
     stated-f : AsStated (dayOf 5) (l .rows) ch′ a

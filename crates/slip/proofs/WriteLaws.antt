@@ -1,7 +1,8 @@
 -- Laws of what is answered and left.
 --   on-few on-short on-value on-written    the outcome for an accepted file, one law a case
 --   slips-refused slips-accepted           the outcome for a file, by its reading
-use mathlib.Core.Path.{_≡_, refl, ap, _∙_}
+--   slips-same                             both calls answer and leave the same for every new file
+use mathlib.Core.Path.{_≡_, refl, sym, ap, _∙_}
 use mathlib.Core.Bool.{true, false}
 use mathlib.Core.List.{List, _++_}
 use Prim.Native.Nat.{ℕ, _+_, _≤_, _<_}
@@ -10,12 +11,14 @@ use borrow.Author.Tests.{lt-ltb, le-ltb}
 use lib.ListN.{length, drop}
 use lib.Seq.{sets-eq}
 use Rattle.text.specs.Buffer.{Appended}
+use Rattle.claimfile.specs.declared.Form.{Form}
 use Rattle.claimfile.specs.declared.Layout.{Layout}
 use Rattle.claimfile.specs.declared.Refusal.{Refusal}
 use Rattle.claimfile.specs.declared.Reading.{Reading}
 use Rattle.claimfile.specs.declared.Reading.the-variants as reading-is
-use Rattle.claimfile.specs.File.{reading}
+use Rattle.claimfile.specs.File.{newFile, storedFile, reading}
 use Rattle.claimfile.specs.Sound.{Sound}
+use Rattle.claimfile.proofs.StoredLaws.{new-stored}
 use Rattle.refusal.specs.declared.Reason.{Reason}
 use Rattle.refusal.specs.declared.Reason.the-variants.{File, Short, Value}
 use Rattle.refusal.specs.declared.Written.{Written}
@@ -73,17 +76,25 @@ module _ (s : List ℕ) (l : Layout) (sel out : List ℕ) where
 --------------------------------------------------------------------------------
 -- The file
 
-module _ (s sel out : List ℕ) where
-  by : (x : Reading) → reading s ≡ x → outcome s sel out ≡ outcomeBy s sel out x
+module _ (f : Form) (s sel out : List ℕ) where
+  by : (x : Reading) → reading f s ≡ x → outcome f s sel out ≡ outcomeBy s sel out x
   unfolding outcome
   by x e = ap (outcomeBy s sel out) e
 
-  pub slips-refused : (why : Refusal) → reading s ≡ reading-is.Refused why → Slips s sel out out (Refused (File why))
+  pub slips-refused : (why : Refusal) → reading f s ≡ reading-is.Refused why → Slips f s sel out out (Refused (File why))
   slips-refused why e =
-      leaves-is (outcome s sel out) (turned (File why) out) (by (reading-is.Refused why) e) out (Refused (File why)) refl refl
+      leaves-is (outcome f s sel out) (turned (File why) out) (by (reading-is.Refused why) e) out (Refused (File why)) refl refl
 
   pub slips-accepted :
-      (l : Layout) (out′ : List ℕ) (r : Written) → reading s ≡ reading-is.Accepted l → WritesOn s l sel out out′ r →
-      Slips s sel out out′ r
+      (l : Layout) (out′ : List ℕ) (r : Written) → reading f s ≡ reading-is.Accepted l → WritesOn s l sel out out′ r →
+      Slips f s sel out out′ r
   slips-accepted l out′ r e w =
-      leaves-is (outcome s sel out) (outcomeOn s l sel out) (by (reading-is.Accepted l) e) out′ r (w .answer) (w .cells)
+      leaves-is (outcome f s sel out) (outcomeOn s l sel out) (by (reading-is.Accepted l) e) out′ r (w .answer) (w .cells)
+
+-- both calls answer and leave the same for every new file
+pub slips-same :
+    (s sel out : List ℕ) (l : Layout) → reading newFile s ≡ reading-is.Accepted l →
+    outcome storedFile s sel out ≡ outcome newFile s sel out
+slips-same s sel out l new =
+    by storedFile s sel out (reading-is.Accepted l) (new-stored s l new)
+    ∙ sym (by newFile s sel out (reading-is.Accepted l) new)

@@ -1,19 +1,21 @@
--- What `write_slip` answers and leaves, for every file, selection and buffer: document 02, E1.
+-- What `write_slip` and `write_slip_stored` answer and leave, for every file, selection and buffer: document 02, E1 and E4.
 --   width                  how many bytes a line has, with its line feed
 --   needed l sel           how many bytes the slip has: a line for each kept row, and the first
 --   lacks l sel out        whether the selection or the buffer is too short
 --   outcomeOn s l sel out  the outcome for an accepted file: 8, then 9, else the slip
 --   outcomeBy s sel out x  the outcome for a file s with the reading x: its own faults come first
---   outcome s sel out      the outcome for a file
+--   outcome f s sel out    the outcome for a file in the form f
 --   Covers s l sel         what the parts of writing ask: the file is sound, and the selection has a byte for each row
 --   WritesOn s l sel out out′ r    for an accepted file, the answer r and the cells out′ are the outcome
---   Slips s sel out out′ r the whole contract: the answer r and the cells out′ are the outcome, and so are number and length (`Leaves`)
+--   Slips f s sel out out′ r   the whole contract: the answer r and the cells out′ are the outcome, and so are number and length
+--                          (`Leaves`)
 use Prim.Native.Nat.{ℕ, _+_, _*_, _≤_}
 use mathlib.Core.Bool.{Bool, true}
 use mathlib.Core.List.{List}
 use lib.ListN.{length}
 use lib.Dec.{ltb}
 use Rattle.theory.specs.Sum.{pick}
+use Rattle.claimfile.specs.declared.Form.{Form}
 use Rattle.claimfile.specs.declared.Layout.{Layout}
 use Rattle.claimfile.specs.declared.Reading.{Reading}
 use Rattle.claimfile.specs.declared.Reading.the-variants as reading-is
@@ -44,8 +46,8 @@ abbrev pub outcomeBy : List ℕ → List ℕ → List ℕ → Reading → Outcom
 outcomeBy s sel out (reading-is.Refused why) = turned (File why) out
 outcomeBy s sel out (reading-is.Accepted l) = outcomeOn s l sel out
 
-unfoldable pub outcome : List ℕ → List ℕ → List ℕ → Outcome
-outcome s sel out = outcomeBy s sel out (reading s)
+unfoldable pub outcome : Form → List ℕ → List ℕ → List ℕ → Outcome
+outcome f s sel out = outcomeBy s sel out (reading f s)
 
 pub record Covers (s : List ℕ) (l : Layout) (sel : List ℕ) : Type 0 where
   pub sound : Sound s l
@@ -54,5 +56,5 @@ pub record Covers (s : List ℕ) (l : Layout) (sel : List ℕ) : Type 0 where
 abbrev pub WritesOn : List ℕ → Layout → List ℕ → List ℕ → List ℕ → Written → Type 0
 WritesOn s l sel out out′ r = Leaves (outcomeOn s l sel out) out′ r
 
-abbrev pub Slips : List ℕ → List ℕ → List ℕ → List ℕ → Written → Type 0
-Slips s sel out out′ r = Leaves (outcome s sel out) out′ r
+abbrev pub Slips : Form → List ℕ → List ℕ → List ℕ → List ℕ → Written → Type 0
+Slips f s sel out out′ r = Leaves (outcome f s sel out) out′ r

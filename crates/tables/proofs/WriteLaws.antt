@@ -1,7 +1,8 @@
 -- Laws of writing the tables from a sound file.
 --   run-none run-more row-more   a run of no cell, and of one cell more; the same from cell 0 on
---   puts-is                      a store, by another name of the value
+--   puts-is run-is               a store and a run, by other names of the values
 --   hosts-keeps                  a store takes no place from the groups that are to be written
+--   below-same                   tables that agree before a group lower its limit alike
 --   put-group groups-none groups-more    one group, no group, and one group more
 --   card-named shop-named        where a row hangs, by its claim
 --   weight-earned weight-ordinary    the weight of a claim, by its kind
@@ -10,7 +11,7 @@
 --   given-hosts given-cell       so there is a place for each group and for each row
 --   put-row rows-none rows-more  one row, no row, and one row more
 --   wrote                        both sections and the rows, one after the other, are all the tables
-use mathlib.Core.Path.{_≡_, refl, sym, ap, subst, _∙_}
+use mathlib.Core.Path.{_≡_, refl, sym, ap, ap₂, subst, _∙_}
 use mathlib.Core.Logic.{_⊎_, inl, inr, _≢_}
 use mathlib.Core.List.{List}
 use Prim.Native.Nat.{ℕ, zero, suc, _+_, _^_, _≤_, _<_}
@@ -20,16 +21,20 @@ use native.Mathlib.Nat.{zero-add, pow-zero, pow-suc}
 use lib.ListN.{length}
 use Rattle.theory.specs.Bounds.{maxLimit, cellBound}
 use Rattle.theory.specs.Turn.{Puts}
+use Rattle.theory.specs.Lowered.{lesser}
 use Rattle.theory.specs.Priority as priority
+use Rattle.theory.proofs.LoweredLaws.{lesser-top}
 use Rattle.claimfile.specs.declared.Layout.{Layout}
+use Rattle.claimfile.specs.declared.Group.{Group}
 use Rattle.claimfile.specs.declared.Claim.{Claim}
 use Rattle.claimfile.specs.Day as day
-use Rattle.claimfile.proofs.DayLaws.{parent-on, limit-on, each-node, card-node, shop-node}
+use Rattle.claimfile.proofs.DayLaws.{above-is, parent-on, limit-only, each-node, card-node, shop-node}
 use Rattle.residual.specs.declared.Shape.{Shape}
 use Rattle.residual.specs.Map.{spares, parents, cardNodes, shopNodes, weights}
 use Rattle.residual.specs.Map.{spareOf, parentOf, cardOf, shopOf, weightOf, Room, Put}
 use Rattle.residual.proofs.MapLaws.{keeps-none, keeps-then, put-keeps, room-keeps}
-use Rattle.tables.specs.Tables.{Tabled, Given, Wrote, Run, OfGroups, OfRows, Hosts, nodeAbove, PutGroup, PutGroups, PutRow, PutRows}
+use Rattle.tables.specs.Tables.{Tabled, Given, Wrote, Run, OfGroups, OfRows, Hosts, nodeAbove, limitBelow}
+use Rattle.tables.specs.Tables.{PutGroup, PutGroups, PutRow, PutRows}
 
 --------------------------------------------------------------------------------
 -- Runs of cells
@@ -60,34 +65,68 @@ row-more f g h n x R P = run-more f g h 0 n x R (rw (zero-add n) P)
 pub puts-is : (f g : ℕ → ℕ) (i x y : ℕ) → x ≡ y → Puts f g i x → Puts f g i y
 puts-is f g i x y e P = rw e at P
 
+run-is :
+    (f g : ℕ → ℕ) (first n : ℕ) (x y : ℕ → ℕ) → ((i : ℕ) → i < n → x i ≡ y i) → Run f g first n x → Run f g first n y
+run-is f g first n x y e R = record { here = λ i l. R .here i l ∙ e i l; else = R .else }
+
 --------------------------------------------------------------------------------
 -- The groups of a section
 
 module _ (s : List ℕ) (l : Layout) (side first root : ℕ) (sh : Shape) where
   pub hosts-keeps :
       (t u : List ℕ) → length u ≡ length t → Hosts s l side first root sh t → Hosts s l side first root sh u
-  hosts-keeps t u e H = record { sound = H .sound; room = room-keeps e (H .room); inside = H .inside; low = H .low }
+  hosts-keeps t u e H =
+      record { sound = H .sound; room = room-keeps e (H .room); inside = H .inside; low = H .low; over = H .over }
 
   pub put-group :
-      (t r u : List ℕ) (g p m : ℕ) → p ≡ nodeAbove s l side first root g → m ≡ day.groupOf s l side g .limit →
+      (t r u : List ℕ) (g : ℕ) (group : Group) (p m : ℕ) → group ≡ day.groupOf s l side g →
+      p ≡ day.above g (group .parent) first root → m ≡ lesser (sh .groups) p (group .limit) (spareOf sh t p) →
       Put sh t r parents (first + g) p → Put sh r u spares (first + g) m → PutGroup s l side first root sh t u g
-  put-group t r u g p m e f A B = record {
-    parents = rw (B .rest parents (λ n. omega arith)) (puts-is _ _ _ _ _ e (A .puts));
-    limits = rw (← A .rest spares (λ n. omega arith)) (puts-is _ _ _ _ _ f (B .puts));
-    keeps = keeps-then (put-keeps {P = OfGroups} (inr refl) A) (put-keeps {P = OfGroups} (inl refl) B);
-  }
+  put-group t r u g group p m is up limit A B =
+      let above : p ≡ nodeAbove s l side first root g = up ∙ ap (λ (x : Group). day.above g (x .parent) first root) is in
+      let below : m ≡ limitBelow s l side first root sh t g =
+      omega (arith, limit, ap₂ (λ v n. lesser (sh .groups) v n (spareOf sh t v)) above (ap (λ (x : Group). x .limit) is)) in
+      record {
+        parents = rw (B .rest parents (λ n. omega arith)) (puts-is _ _ _ _ _ above (A .puts));
+        limits = rw (A .rest spares (λ n. omega arith)) at (puts-is _ _ _ _ _ below (B .puts));
+        keeps = keeps-then (put-keeps {P = OfGroups} (inr refl) A) (put-keeps {P = OfGroups} (inl refl) B);
+      }
 
   pub groups-none : (t : List ℕ) → PutGroups s l side first root sh t t 0
   groups-none t = record { parents = run-none _ _ _; limits = run-none _ _ _; keeps = keeps-none }
 
-  pub groups-more :
-      (t r u : List ℕ) (n : ℕ) → PutGroups s l side first root sh t r n → PutGroup s l side first root sh r u n →
-      PutGroups s l side first root sh t u (n + 1)
-  groups-more t r u n A B = record {
-    parents = run-more _ _ _ _ _ _ (A .parents) (B .parents);
-    limits = run-more _ _ _ _ _ _ (A .limits) (B .limits);
-    keeps = keeps-then (A .keeps) (B .keeps);
-  }
+  module _ (over : (root < first) ⊎ (sh .groups ≤ root)) where
+    -- the node above a group is written before it, or is no group
+    above-before : (g : ℕ) → (nodeAbove s l side first root g < first + g) ⊎ (sh .groups ≤ nodeAbove s l side first root g)
+    above-before g =
+        elim (above-is g (day.groupOf s l side g .parent) first root) [
+          | inl q ↦ inl (omega (arith, q .0, q .1))
+          | inr q ↦ elim over [ inl h ↦ inl (omega (arith, q)) | inr h ↦ inr (omega (arith, q)) ]
+        ]
+
+    pub below-same :
+        (t u : List ℕ) (g : ℕ) → ((v : ℕ) → v < first + g → spareOf sh u v ≡ spareOf sh t v) →
+        limitBelow s l side first root sh t g ≡ limitBelow s l side first root sh u g
+    below-same t u g same =
+        let up = nodeAbove s l side first root g in
+        let limit = day.groupOf s l side g .limit in
+        elim (above-before g) [
+          | inl h ↦ ap (lesser (sh .groups) up limit) (sym (same up h))
+          | inr h ↦
+              lesser-top (sh .groups) up limit (spareOf sh t up) h
+              ∙ sym (lesser-top (sh .groups) up limit (spareOf sh u up) h)
+        ]
+
+    pub groups-more :
+        (t r u : List ℕ) (n : ℕ) → PutGroups s l side first root sh t r n → PutGroup s l side first root sh r u n →
+        PutGroups s l side first root sh t u (n + 1)
+    groups-more t r u n A B = record {
+      parents = run-more _ _ _ _ _ _ (A .parents) (B .parents);
+      limits =
+          run-is _ _ _ _ _ _ (λ g h. below-same r u g (λ v k. B .limits .else v (λ e. omega arith)))
+          (run-more _ _ _ _ _ _ (A .limits) (B .limits));
+      keeps = keeps-then (A .keeps) (B .keeps);
+    }
 
 --------------------------------------------------------------------------------
 -- The rows of a sound file
@@ -122,12 +161,13 @@ module _ (s : List ℕ) (l : Layout) (sh : Shape) where
   -- what writing the groups of a side asks
   pub given-hosts :
       (t u : List ℕ) (side first root : ℕ) → Given s l sh t → length u ≡ length t →
-      first + day.countOf l side ≤ day.groupsOf l → root ≤ sh .groups + 1 → Hosts s l side first root sh u
-  given-hosts t u side first root G e h k = record {
+      first + day.countOf l side ≤ day.groupsOf l → sh .groups ≤ root → root ≤ sh .groups + 1 → Hosts s l side first root sh u
+  given-hosts t u side first root G e h past k = record {
     sound = G .sound;
     room = room-keeps e (G .room);
     inside = omega (arith, G .shape .groups);
     low = omega (arith, G .room .few .groups);
+    over = inr past;
   }
 
   -- what storing a small number for a row asks
@@ -194,7 +234,18 @@ not-of-rows k h (inr (inr e)) = omega arith
 abbrev Side : List ℕ → Layout → Shape → ℕ → List ℕ → List ℕ → Type 0
 Side s l sh side t t′ = PutGroups s l side (day.firstOf l side) (day.rootOf l side) sh t t′ (day.countOf l side)
 
-module _ (s : List ℕ) (l : Layout) (sh : Shape) (t r u w : List ℕ) where
+module _ (s : List ℕ) (l : Layout) (sh : Shape) (groups : sh .groups ≡ day.groupsOf l) (t r u w : List ℕ) where
+  -- the shop groups are written behind the card groups, so these are still lowered to what is above them
+  cards-lowered :
+      Side s l sh 0 t r → Side s l sh 1 r u →
+      Run (spareOf sh t) (spareOf sh r) 0 (l .cards) (limitBelow s l 0 0 (day.groupsOf l) sh u)
+  cards-lowered A B =
+      run-is _ _ _ _ _ _
+      (λ g h.
+      below-same s l 0 0 (day.groupsOf l) sh (inr (omega (arith, groups))) r u g
+      (λ v k. B .limits .else v (inl (omega arith))))
+      (A .limits)
+
   day-written : Side s l sh 0 t r → Side s l sh 1 r u → PutRows s l sh u w (l .rows) → Tabled (day.instanceOf s l) sh w
   day-written A B C =
       let same : parentOf sh w ≡ parentOf sh u = C .keeps .rest parents (not-of-rows parents (omega arith)) in
@@ -207,22 +258,24 @@ module _ (s : List ℕ) (l : Layout) (sh : Shape) (t r u w : List ℕ) where
             ∙ two-runs l _ _ _ (day.upOf s l) (λ k n. refl) (A .parents) (B .parents) side g h
             ∙ sym (parent-on s l side g h));
         limits =
-            each-node s l (λ v. spareOf sh w v ≡ day.limitOf s l v)
+            limit-only s l (spareOf sh w)
             (λ side g h.
             ap (λ p. p (day.firstOf l side + g)) kept
-            ∙ two-runs l _ _ _ (λ k n. day.groupOf s l k n .limit) (λ k n. refl) (A .limits) (B .limits) side g h
-            ∙ sym (limit-on s l side g h));
+            ∙ two-runs l _ _ _ (λ k. limitBelow s l k (day.firstOf l k) (day.rootOf l k) sh u) (λ k n. refl) (cards-lowered A B)
+            (B .limits) side g h
+            ∙ ap₂ (λ n p. lesser n (day.upOf s l side g) (day.groupOf s l side g .limit) (p (day.upOf s l side g))) groups
+            (sym kept));
         cards = λ c h. ap (cardOf sh w) (sym (zero-add c)) ∙ C .cards .here c h;
         shops = λ c h. ap (shopOf sh w) (sym (zero-add c)) ∙ C .shops .here c h;
         weights = λ c h. ap (weightOf sh w) (sym (zero-add c)) ∙ C .weights .here c h;
       }
 
   pub wrote :
-      (groups : ℕ) → groups ≡ day.groupsOf l → PutGroups s l 0 0 groups sh t r (l .cards) →
-      PutGroups s l 1 (l .cards) (groups + 1) sh r u (l .shops) → PutRows s l sh u w (l .rows) → Wrote s l sh t w
-  wrote groups e A B C = record {
+      PutGroups s l 0 0 (sh .groups) sh t r (l .cards) → PutGroups s l 1 (l .cards) (sh .groups + 1) sh r u (l .shops) →
+      PutRows s l sh u w (l .rows) → Wrote s l sh t w
+  wrote A B C = record {
     long = C .keeps .long ∙ B .keeps .long ∙ A .keeps .long;
     tabled =
-        day-written (subst (λ n. PutGroups s l 0 0 n sh t r (l .cards)) e A)
-        (subst (λ n. PutGroups s l 1 (l .cards) (n + 1) sh r u (l .shops)) e B) C;
+        day-written (subst (λ n. PutGroups s l 0 0 n sh t r (l .cards)) groups A)
+        (subst (λ n. PutGroups s l 1 (l .cards) (n + 1) sh r u (l .shops)) groups B) C;
   }

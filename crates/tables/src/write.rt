@@ -2,8 +2,10 @@
 ghost use mathlib.Core.Path.{_≡_};
 ghost use Prim.Native.Nat.{_+_, _*_, _≤_, _<_};
 ghost use Rattle.theory.specs.Bounds.{maxGroups, maxRows, cellBound};
+ghost use Rattle.theory.specs.Lowered.{lesser};
 ghost use Rattle.theory.specs.Priority as priority;
 ghost use Rattle.claimfile.specs.Day as day;
+ghost use Rattle.residual.specs.Map.{spareOf, Room};
 ghost use Rattle.tables.specs.Tables.{shapeOf, Given, Wrote, Hosts, PutGroup, PutGroups, PutRow, PutRows};
 use claimfile::Claim;
 use claimfile::Layout;
@@ -16,6 +18,7 @@ use residual::map::set_parent;
 use residual::map::set_shop;
 use residual::map::set_spare;
 use residual::map::set_weight;
+use residual::map::spare;
 
 const CARD_SIDE: usize = 0;
 
@@ -51,7 +54,23 @@ fn above(own: usize, parent: usize, first: usize, root: usize) -> usize
     root
 }
 
-// The parent and the limit of group `g` of a side, whose group 0 is node `first`; `root` stands over its tops.
+// The limit of a group under node `up`: the written one, lowered to that of `up` where `up` is a group with less.
+fn lower(sh: Shape, up: usize, written: usize, scratch: &[u32]) -> usize
+    requires { ⌜ Room sh (now scratch) ⌝ }
+    ensures { λ r. ⌜ (r ≡ lesser (sh .groups) up written (spareOf sh (now (scratch .entry)) up)) × (r ≤ written) ⌝ }
+{
+    if sh.groups <= up {
+        return written;
+    }
+    let most = spare(sh, up, scratch);
+    if most < written {
+        return most;
+    }
+    written
+}
+
+// The parent and the limit of group `g` of a side, whose group 0 is node `first`; `root` stands over its tops. The groups before it,
+// and the root where that is a group, have their limits in the scratch.
 fn write_group(
     file: &[u8],
     layout: Layout,
@@ -68,11 +87,12 @@ fn write_group(
     let group = group_of(file, layout, side, g);
     let node = first + g;
     let up = above(g, group.parent, first, root);
+    let limit = lower(sh, up, group.limit, scratch);
     set_parent(sh, node, up, scratch);
-    set_spare(sh, node, group.limit, scratch);
+    set_spare(sh, node, limit, scratch);
 }
 
-// The parents and limits of all groups of a side.
+// The parents and limits of all groups of a side, from the front: so the limit above each group is lowered before its own.
 fn write_groups(
     file: &[u8],
     layout: Layout,

@@ -16,6 +16,8 @@ pub mod FirstLaws
 pub mod SearchLaws
 pub mod BestLaws
 pub mod ChoiceLaws
+pub mod ListsLaws
+pub mod LoweredLaws
 pub mod LevelLaws
 pub mod ChangeLaws
 pub mod FillLaws

@@ -133,7 +133,7 @@ module _ (d : Network) (x k : ℕ) where
       load-both (again d x k) (along (d .rows) X) v
       ∙ omega (arith, again-load X 0 v, again-load X 1 v, load-both d X v)
 
-  again-formed : Formed d → x < d .rows → Formed (again d x k)
+  pub again-formed : Formed d → x < d .rows → Formed (again d x k)
   again-formed f inside =
       record {
         sides = f .sides;
@@ -190,7 +190,7 @@ module _ (d : Network) (limit X : ℕ → ℕ) (x : ℕ) where
 
 module _ (d : Network) (formed : Formed d) (limit X : ℕ → ℕ) (x : ℕ) (inside : x < d .rows) where
   module _ (fits : FitsBoth d limit X) (k : ℕ) where
-    again-fits : HasPlaces d limit X x k → FitsBoth (again d x k) limit (along (d .rows) X)
+    pub again-fits : HasPlaces d limit X x k → FitsBoth (again d x k) limit (along (d .rows) X)
     again-fits places =
         both-fits (again d x k) limit (along (d .rows) X)
         (λ v l.
@@ -201,7 +201,7 @@ module _ (d : Network) (formed : Formed d) (limit X : ℕ → ℕ) (x : ℕ) (in
               omega (arith, again-both d x k X v, ap (λ y. k * y) none, fits-both d limit X formed fits v l)
         ])
 
-    fits-again : FitsBoth (again d x k) limit (along (d .rows) X) → HasPlaces d limit X x k
+    pub fits-again : FitsBoth (again d x k) limit (along (d .rows) X) → HasPlaces d limit X x k
     fits-again further v l e =
         omega (
           arith,
@@ -238,7 +238,7 @@ module _ (d : Network) (formed : Formed d) (limit X : ℕ → ℕ) (x : ℕ) (in
         fits-both d limit X formed fits v l,
       )
 
-  places-spare : FitsBoth d limit X → (k : ℕ) → k ≤ maxLimit → HasPlaces d limit X x k → k ≤ sparePlaces d limit X x
+  pub places-spare : FitsBoth d limit X → (k : ℕ) → k ≤ maxLimit → HasPlaces d limit X x k → k ≤ sparePlaces d limit X x
   places-spare fits k h places =
       rw (spare-fits d limit X x fits)
       (le-least (counted d limit X x) (placesLeft d limit X) maxLimit k (d .groups) h

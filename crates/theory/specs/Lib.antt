@@ -1,7 +1,7 @@
 -- The definitions of the theory; the laws stand in proofs/. What a reader must believe, for each demand:
 --   demand 2   Sum, Forest, Incidence, Network, Matroid
 --   demand 3   these, and Priority, Best, Sheet
--- and for spare places those of demand 2, and Spare.
+-- and for spare places those of demand 2, and Spare; for stored files Lowered.
 -- The others are what proofs and inner contracts speak of.
 pub mod Sum
 pub mod Forest
@@ -13,6 +13,7 @@ pub mod Best
 pub mod Sheet
 pub mod Bounds
 pub mod Spare
+pub mod Lowered
 pub mod Search
 pub mod Chain
 pub mod Formed

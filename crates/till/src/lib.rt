@@ -1,27 +1,36 @@
 // The calls for the till's own program, which is in C: c/claims.h declares them.
 //
 // A slice is passed as a pointer and a length. Each call on a file answers a struct of numbers by value. Only settle, the slip and the
-// canonical form change lent memory.
+// canonical form change lent memory. A call takes a new file, and the one beside it, with `_stored` in its name, a stored file.
 ghost use mathlib.Core.Path.{_≡_};
+ghost use Prim.Native.Nat.{_≤_};
+ghost use Rattle.theory.specs.Bounds.{maxRows, maxLimit};
+ghost use Rattle.claimfile.specs.File.{newFile, storedFile};
+ghost use Rattle.limits.specs.Answers as limits-answers;
 ghost use Rattle.slip.specs.Write as slip-write;
 ghost use Rattle.canonical.specs.Write as canonical-write;
-ghost use Rattle.till.specs.Numbers.{FitsAndRankIs, SparePlacesIs};
-ghost use Rattle.till.specs.SettleNumbers.{SettleIs};
+ghost use Rattle.till.specs.Numbers.{rankedNumbers, spareNumbers, FitsAndRankIs, SparePlacesIs};
+ghost use Rattle.till.specs.SettleNumbers.{settledNumbers, SettleIs};
 ghost use Rattle.till.specs.WriteNumbers.{writtenNumbers, WriteIs};
 ghost use Rattle.till.specs.Version.{version};
 use canonical::write_canonical;
+use canonical::write_canonical_stored;
 use closing::Settled;
 use closing::settle;
+use closing::settle_stored;
 use limits::Ranked;
 use limits::Spare;
 use limits::fits_and_rank;
+use limits::fits_and_rank_stored;
 use limits::spare_places;
+use limits::spare_places_stored;
 use refusal::Written;
 use refusal::number;
 use slip::write_slip;
+use slip::write_slip_stored;
 
 // Which library this is. It rises by one with each change of a call, a needed length or an answer.
-pub const VERSION: u32 = 4;
+pub const VERSION: u32 = 5;
 
 // The refusal's number and zeros where the call is turned away; else 0, 1 where the selection fits and 0 where not, and its rank.
 #[repr(C)]
@@ -55,12 +64,11 @@ pub struct WriteAnswer {
     pub length: u64,
 }
 
-// Whether a selection fits a side (0 card, 1 shop), and its rank there.
-#[no_mangle]
-pub extern "C" fn claims_fits_and_rank(file: &[u8], selection: &[u8], side: u32) -> FitsAndRank
-    ensures { λ r. ⌜ FitsAndRankIs (now (file .entry)) (now (selection .entry)) side r ⌝ }
+// The numbers for an answer of fits and rank.
+fn ranked_numbers(answer: Ranked) -> FitsAndRank
+    requires { ⌜ limits-answers.rankedNumbers answer .rank ≤ maxRows ⌝ }
+    ensures { λ r. ⌜ r ≡ rankedNumbers answer ⌝ }
 {
-    let answer = fits_and_rank(file, selection, side as usize);
     match answer {
         Ranked::Told { fits, rank } => FitsAndRank {
             refusal: 0,
@@ -75,12 +83,31 @@ pub extern "C" fn claims_fits_and_rank(file: &[u8], selection: &[u8], side: u32)
     }
 }
 
-// How many further claims like the row would fit beside a selection that does not hold it.
+// Whether a selection fits a side (0 card, 1 shop), and its rank there.
 #[no_mangle]
-pub extern "C" fn claims_spare_places(file: &[u8], selection: &[u8], row: u32) -> SparePlacesAnswer
-    ensures { λ r. ⌜ SparePlacesIs (now (file .entry)) (now (selection .entry)) row r ⌝ }
+pub extern "C" fn claims_fits_and_rank(file: &[u8], selection: &[u8], side: u32) -> FitsAndRank
+    ensures { λ r. ⌜ FitsAndRankIs newFile (now (file .entry)) (now (selection .entry)) side r ⌝ }
 {
-    let answer = spare_places(file, selection, row as usize);
+    ranked_numbers(fits_and_rank(file, selection, side as usize))
+}
+
+// The same for a stored file.
+#[no_mangle]
+pub extern "C" fn claims_fits_and_rank_stored(
+    file: &[u8],
+    selection: &[u8],
+    side: u32,
+) -> FitsAndRank
+    ensures { λ r. ⌜ FitsAndRankIs storedFile (now (file .entry)) (now (selection .entry)) side r ⌝ }
+{
+    ranked_numbers(fits_and_rank_stored(file, selection, side as usize))
+}
+
+// The numbers for an answer of spare places.
+fn spare_numbers(answer: Spare) -> SparePlacesAnswer
+    requires { ⌜ limits-answers.spareNumbers answer .places ≤ maxLimit ⌝ }
+    ensures { λ r. ⌜ r ≡ spareNumbers answer ⌝ }
+{
     match answer {
         Spare::Places(places) => SparePlacesAnswer {
             refusal: 0,
@@ -93,17 +120,30 @@ pub extern "C" fn claims_spare_places(file: &[u8], selection: &[u8], row: u32) -
     }
 }
 
-// Settles a file: leaves the best choice and the marks, and clears the scratch.
+// How many further claims like the row would fit beside a selection that does not hold it.
 #[no_mangle]
-pub extern "C" fn claims_settle(
-    file: &[u8],
-    choice: &mut [u8],
-    sheet: &mut [u32],
-    scratch: &mut [u32],
-) -> SettleAnswer
-    ensures { λ r. ⌜ SettleIs (now (file .entry)) (now (choice .entry)) (now (sheet .entry)) (now (scratch .entry)) (now (choice .exit)) (now (sheet .exit)) (now (scratch .exit)) r ⌝ }
+pub extern "C" fn claims_spare_places(file: &[u8], selection: &[u8], row: u32) -> SparePlacesAnswer
+    ensures { λ r. ⌜ SparePlacesIs newFile (now (file .entry)) (now (selection .entry)) row r ⌝ }
 {
-    let settled = settle(file, choice, sheet, scratch);
+    spare_numbers(spare_places(file, selection, row as usize))
+}
+
+// The same for a stored file.
+#[no_mangle]
+pub extern "C" fn claims_spare_places_stored(
+    file: &[u8],
+    selection: &[u8],
+    row: u32,
+) -> SparePlacesAnswer
+    ensures { λ r. ⌜ SparePlacesIs storedFile (now (file .entry)) (now (selection .entry)) row r ⌝ }
+{
+    spare_numbers(spare_places_stored(file, selection, row as usize))
+}
+
+// The numbers for an answer of settle.
+fn settled_numbers(settled: Settled) -> SettleAnswer
+    ensures { λ r. ⌜ r ≡ settledNumbers settled ⌝ }
+{
     match settled {
         Settled::Closed(totals) => SettleAnswer {
             refusal: 0,
@@ -120,8 +160,34 @@ pub extern "C" fn claims_settle(
     }
 }
 
+// Settles a file: leaves the best choice and the marks, and clears the scratch.
+#[no_mangle]
+pub extern "C" fn claims_settle(
+    file: &[u8],
+    choice: &mut [u8],
+    sheet: &mut [u32],
+    scratch: &mut [u32],
+) -> SettleAnswer
+    ensures { λ r. ⌜ SettleIs newFile (now (file .entry)) (now (choice .entry)) (now (sheet .entry)) (now (scratch .entry)) (now (choice .exit)) (now (sheet .exit)) (now (scratch .exit)) r ⌝ }
+{
+    settled_numbers(settle(file, choice, sheet, scratch))
+}
+
+// The same for a stored file.
+#[no_mangle]
+pub extern "C" fn claims_settle_stored(
+    file: &[u8],
+    choice: &mut [u8],
+    sheet: &mut [u32],
+    scratch: &mut [u32],
+) -> SettleAnswer
+    ensures { λ r. ⌜ SettleIs storedFile (now (file .entry)) (now (choice .entry)) (now (sheet .entry)) (now (scratch .entry)) (now (choice .exit)) (now (sheet .exit)) (now (scratch .exit)) r ⌝ }
+{
+    settled_numbers(settle_stored(file, choice, sheet, scratch))
+}
+
 // The numbers for an answer of a call that writes.
-fn numbers_of(written: Written) -> WriteAnswer
+fn written_numbers(written: Written) -> WriteAnswer
     ensures { λ r. ⌜ r ≡ writtenNumbers written ⌝ }
 {
     match written {
@@ -139,17 +205,37 @@ fn numbers_of(written: Written) -> WriteAnswer
 // Writes the slip of the rows that a selection keeps.
 #[no_mangle]
 pub extern "C" fn claims_write_slip(file: &[u8], selection: &[u8], slip: &mut [u8]) -> WriteAnswer
-    ensures { λ r. ⌜ WriteIs (slip-write.outcome (now (file .entry)) (now (selection .entry)) (now (slip .entry))) (now (slip .exit)) r ⌝ }
+    ensures { λ r. ⌜ WriteIs (slip-write.outcome newFile (now (file .entry)) (now (selection .entry)) (now (slip .entry))) (now (slip .exit)) r ⌝ }
 {
-    numbers_of(write_slip(file, selection, slip))
+    written_numbers(write_slip(file, selection, slip))
+}
+
+// The same for a stored file.
+#[no_mangle]
+pub extern "C" fn claims_write_slip_stored(
+    file: &[u8],
+    selection: &[u8],
+    slip: &mut [u8],
+) -> WriteAnswer
+    ensures { λ r. ⌜ WriteIs (slip-write.outcome storedFile (now (file .entry)) (now (selection .entry)) (now (slip .entry))) (now (slip .exit)) r ⌝ }
+{
+    written_numbers(write_slip_stored(file, selection, slip))
 }
 
 // Writes the canonical form of a file.
 #[no_mangle]
 pub extern "C" fn claims_write_canonical(file: &[u8], canonical: &mut [u8]) -> WriteAnswer
-    ensures { λ r. ⌜ WriteIs (canonical-write.outcome (now (file .entry)) (now (canonical .entry))) (now (canonical .exit)) r ⌝ }
+    ensures { λ r. ⌜ WriteIs (canonical-write.outcome newFile (now (file .entry)) (now (canonical .entry))) (now (canonical .exit)) r ⌝ }
 {
-    numbers_of(write_canonical(file, canonical))
+    written_numbers(write_canonical(file, canonical))
+}
+
+// The same for a stored file: its limits are written as lowered.
+#[no_mangle]
+pub extern "C" fn claims_write_canonical_stored(file: &[u8], canonical: &mut [u8]) -> WriteAnswer
+    ensures { λ r. ⌜ WriteIs (canonical-write.outcome storedFile (now (file .entry)) (now (canonical .entry))) (now (canonical .exit)) r ⌝ }
+{
+    written_numbers(write_canonical_stored(file, canonical))
 }
 
 // The version, for a box to be asked.

@@ -1,9 +1,7 @@
 -- `put_record` meets its contract: a group whose cell is 256 or more is dropped, and nothing is put; the record of any other is
--- put at the place of its number, with its limit and with its parent in the new numbers.
-use mathlib.Core.Path.{ap}
+-- put at the place of its number.
 use native.Mathlib.Omega.{arith}
 use borrow.Author.Needs.{needs}
-use Rattle.claimfile.specs.declared.Group.{Group}
 use Rattle.canonical.proofs.PartLaws.{group-most, put-dropped, number-placed, put-used}
 use Rattle.canonical.proofs.put_record.Statement.{statement}
 use Rattle.canonical.proofs.put_record.Tie as tie
@@ -26,24 +24,21 @@ returns c =
     let start = c .before .before .before .before .before in
     put-dropped (start .pre .0 .0) (start .pre .0 .1) (start .pre .1) (omega arith)
 
-group-of-requires : tie.Need-group-of-requires
-group-of-requires c κs = search needs
-
-parent-for-requires : tie.Need-parent-for-requires
-parent-for-requires c κs =
-    let start = c .before .before .before .before .before .before in
-    group-most (start .pre .0 .0) (start .pre .0 .1) (start .pre .1)
+record-for-requires : tie.Need-record-for-requires
+record-for-requires c κs =
+    let number = c .before .before in
+    let start = number .before .before .before .before in
+    (start .pre .0, (start .pre .1, omega (arith, number .wide .ensures .0)))
 
 put-group-requires : tie.Need-put-group-requires
 put-group-requires c κs =
-    let parent = c .before in
-    let found = parent .before in
-    let number = found .before .before in
+    let made = c .before in
+    let number = made .before .before .before in
     let start = number .before .before .before .before in (
       start .pre .0 .0 .given .room,
       number-placed (start .pre .0 .0) (start .pre .0 .1) (start .pre .1) (number .wide .ensures .0) (omega arith),
-      parent .parent-for .ensures .1,
-      found .group-of .ensures .2,
+      made .record-for .ensures .parent-small,
+      made .record-for .ensures .limit-small,
     )
 
 same-length : tie.Need-same-length
@@ -52,14 +47,11 @@ same-length c = search needs
 returns-2 : tie.Need-returns-2
 returns-2 c =
     let put = c .before .before in
-    let parent = put .before .before in
-    let found = parent .before in
-    let number = found .before .before in
+    let made = put .before .before in
+    let number = made .before .before .before in
     let start = number .before .before .before .before in
-    let is = found .group-of .ensures .0 in
     put-used (start .pre .0 .0) (start .pre .0 .1) (start .pre .1) (number .wide .ensures .0) (omega arith)
-    (omega (arith, ap (λ (x : Group). x .parent) is)) (parent .parent-for .ensures .0)
-    (omega (arith, ap (λ (x : Group). x .limit) is)) (put .put-group .ensures)
+    (made .record-for .ensures .is) (put .put-group .ensures)
 
 pub put-record-spec : {M : Type 1} → statement M
 put-record-spec =
@@ -69,8 +61,7 @@ put-record-spec =
     element-copy-out-wide
     wide-requires
     returns
-    group-of-requires
-    parent-for-requires
+    record-for-requires
     put-group-requires
     same-length
     returns-2)

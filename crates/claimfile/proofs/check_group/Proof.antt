@@ -1,24 +1,85 @@
--- `check_group` meets its contract: the parent is smaller, or it is the top, or it is at fault.
-use mathlib.Core.Path.{sym}
+-- `check_group` meets its contract. The parent is no smaller group, and then it is the top or at fault; or it is one, and then a new
+-- file's limit is at most the parent's or at fault.
+use mathlib.Core.Path.{_≡_, sym, ap, _∙_}
 use native.Mathlib.Omega.{arith}
-use Rattle.claimfile.proofs.FileLaws.{parent-small, parent-top, parent-bad}
+use Rattle.claimfile.specs.File.{groupAt}
+use Rattle.claimfile.specs.declared.Group.{Group}
+use Rattle.claimfile.proofs.FileLaws.{group-bad, group-top, group-stored, group-new, group-above}
 use Rattle.claimfile.proofs.check_group.Statement.{statement}
 use Rattle.claimfile.proofs.check_group.Tie as tie
 
+group-at-requires : tie.Need-group-at-requires
+group-at-requires c κs = c .before .pre
+
+-- the parent is no smaller group
 returns : tie.Need-returns
 returns c =
-    let a = c .before .before .before .before .args in
-    sym (parent-bad (a .own) (a .group) (omega arith) (c .if2 .taken))
+    let read = c .before .before .before .before in
+    let a = read .before .before .args in
+    let own = ap (λ (x : Group). x .parent) (read .group-at .ensures .0) in
+    sym (group-bad (a .form) (groupAt (a .file .now) (a .start)) (a .own) (omega arith) (λ e. c .if2 .taken (own ∙ e)))
 
 returns-2 : tie.Need-returns-2
 returns-2 c =
-    let a = c .before .before .before .before .args in
-    sym (parent-top (a .own) (a .group) (omega arith) (c .if2 .left))
+    let read = c .before .before .before .before in
+    let a = read .before .before .args in
+    let own = ap (λ (x : Group). x .parent) (read .group-at .ensures .0) in
+    sym (group-top (a .form) (groupAt (a .file .now) (a .start)) (a .own) (omega arith) (sym own ∙ c .if2 .left))
 
+-- it is one
 returns-3 : tie.Need-returns-3
 returns-3 c =
-    let a = c .before .before .args in
-    sym (parent-small (a .own) (a .group) (omega arith))
+    let read = c .before .before .before in
+    let a = read .before .before .args in
+    let own = ap (λ (x : Group). x .parent) (read .group-at .ensures .0) in
+    sym (group-stored (a .form) (groupAt (a .file .now) (a .start)) (a .own) (omega arith) (c .if3 .taken))
+
+group-at-requires-2 : tie.Need-group-at-requires-2
+group-at-requires-2 c κs =
+    let read = c .before .before .before in
+    let whole = read .before .before .pre in
+    omega arith
+
+-- the limit in the parent's record
+parent-limit :
+    (c : tie.After-group-at2) →
+    let read = c .before .before .before .before in
+    let group = groupAt (read .before .before .args .file .now) (read .before .before .args .start) in
+    c .group-at2 .result .limit ≡ group (group (read .before .before .args .own) .parent) .limit
+parent-limit c =
+    let read = c .before .before .before .before in
+    let a = read .before .before .args in
+    ap (λ (x : Group). x .limit) (c .group-at2 .ensures .0)
+    ∙ ap (λ g. groupAt (a .file .now) (a .start) g .limit) (ap (λ (x : Group). x .parent) (read .group-at .ensures .0))
+
+returns-4 : tie.Need-returns-4
+returns-4 c =
+    let called = c .before .before .before in
+    let read = called .before .before .before .before in
+    let a = read .before .before .args in
+    let own = ap (λ (x : Group). x .parent) (read .group-at .ensures .0) in
+    let limit = ap (λ (x : Group). x .limit) (read .group-at .ensures .0) in
+    let most = parent-limit called in
+    sym (group-above (a .form) (groupAt (a .file .now) (a .start)) (a .own) (omega arith) (called .before .if3 .left) (omega arith))
+
+returns-5 : tie.Need-returns-5
+returns-5 c =
+    let called = c .before .before .before in
+    let read = called .before .before .before .before in
+    let a = read .before .before .args in
+    let own = ap (λ (x : Group). x .parent) (read .group-at .ensures .0) in
+    let limit = ap (λ (x : Group). x .limit) (read .group-at .ensures .0) in
+    let most = parent-limit called in
+    sym (group-new (a .form) (groupAt (a .file .now) (a .start)) (a .own) (omega arith) (called .before .if3 .left) (omega arith))
 
 pub check-group-spec : {M : Type 1} → statement M
-check-group-spec = tie.close (tie.spec returns returns-2 returns-3)
+check-group-spec =
+    tie.close
+    (tie.spec
+    group-at-requires
+    returns
+    returns-2
+    returns-3
+    group-at-requires-2
+    returns-4
+    returns-5)

@@ -1,31 +1,20 @@
 -- `check_groups` meets its contract. The loop keeps that the first fault of the records left is that of all.
-use mathlib.Core.Path.{_≡_, sym, _∙_, ap}
+use mathlib.Core.Path.{_≡_, sym, _∙_}
 use Prim.Native.Nat.{_-_, _≤_}
 use native.Mathlib.Omega.{arith}
 use native.Mathlib.Nat.{sub-zero}
 use borrow.Author.Needs.{needs}
-use Rattle.claimfile.specs.File.{groupAt, groupFault, groupsFrom}
-use Rattle.claimfile.specs.declared.Group.{Group}
+use Rattle.claimfile.specs.File.{groupsFrom}
 use Rattle.claimfile.proofs.FileLaws.{no-record, record-cut, record-fault, next-record}
 use Rattle.claimfile.proofs.check_groups.Statement.{statement}
 use Rattle.claimfile.proofs.check_groups.Tie as tie
 
 abbrev Inv-loop : tie.InvT-loop
-Inv-loop file start count own₀ own = (own ≤ count) × (groupsFrom file start own (count - own) ≡ groupsFrom file start 0 count)
+Inv-loop file form start count own₀ own =
+    (own ≤ count) × (groupsFrom form file start own (count - own) ≡ groupsFrom form file start 0 count)
 
 abbrev μ-loop : tie.MeasureT-loop
-μ-loop file start count own₀ own = count - own
-
--- what the check of the present record finds is the fault of its fields
-judged :
-    (c : tie.After-check-group Inv-loop μ-loop) →
-    let at = c .before .before .before .before in
-    let a = at .before .before .args in
-    c .check-group .result ≡ groupFault (at .loop .own) (groupAt (a .file .now) (a .start) (at .loop .own))
-judged c =
-    let at = c .before .before .before .before in
-    let a = at .before .before .args in
-    c .check-group .ensures ∙ ap (λ (y : Group). groupFault (at .loop .own) y) (c .before .group-at .ensures .0)
+μ-loop file form start count own₀ own = count - own
 
 loop-holds : tie.Need-loop-holds Inv-loop μ-loop
 loop-holds c = (search needs, simp sub-zero)
@@ -45,11 +34,8 @@ returns c =
     let a = at .before .before .args in
     sym (record-cut _ _ _ _ (a .count) (at .loop .own) (omega arith) (omega arith)) ∙ at .loop .inv .1
 
-group-at-requires : tie.Need-group-at-requires Inv-loop μ-loop
-group-at-requires c κs = omega arith
-
 check-group-requires : tie.Need-check-group-requires Inv-loop μ-loop
-check-group-requires c κs = search needs
+check-group-requires c κs = omega arith
 
 enum-told : tie.Need-enum-told Inv-loop μ-loop
 enum-told c = search needs
@@ -60,11 +46,11 @@ enum-told-2 c = search needs
 returns-2 : tie.Need-returns-2 Inv-loop μ-loop
 returns-2 c =
     let called = c .before .before in
-    let at = called .before .before .before .before in
+    let at = called .before .before .before in
     let a = at .before .before .args in
     let told = c .enum-told2 .given .1 in
     told
-    ∙ sym (record-fault _ _ _ _ (a .count) (at .loop .own) (omega arith) (omega arith) _ (sym (judged called) ∙ told))
+    ∙ sym (record-fault _ _ _ _ (a .count) (at .loop .own) (omega arith) (omega arith) _ (sym (called .check-group .ensures) ∙ told))
     ∙ at .loop .inv .1
 
 add-own : tie.Need-add-own Inv-loop μ-loop
@@ -76,11 +62,12 @@ loop-less c = omega arith
 loop-again : tie.Need-loop-again Inv-loop μ-loop
 loop-again c =
     let called = c .before .before in
-    let at = called .before .before .before .before in
+    let at = called .before .before .before in
     let a = at .before .before .args in
     let told = c .enum-told .given .1 in (
       omega arith,
-      sym (next-record _ _ _ _ (a .count) (at .loop .own) (omega arith) (omega arith) (sym (judged called) ∙ told)) ∙ at .loop .inv .1,
+      sym (next-record _ _ _ _ (a .count) (at .loop .own) (omega arith) (omega arith) (sym (called .check-group .ensures) ∙ told))
+          ∙ at .loop .inv .1,
     )
 
 returns-3 : tie.Need-returns-3 Inv-loop μ-loop
@@ -100,7 +87,6 @@ check-groups-spec =
     mul-if1
     add-if1
     returns
-    group-at-requires
     check-group-requires
     enum-told
     enum-told-2

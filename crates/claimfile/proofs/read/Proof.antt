@@ -22,9 +22,9 @@ refused-by-requires c κs = search needs
 returns : tie.Need-returns
 returns c =
     let called = c .before .before .before in
-    let s = called .before .before .args .file .now in
+    let a = called .before .before .args in
     let told = c .before .enum-told .given .1 in
-    c .refused-by .ensures ∙ ap refusedBy told ∙ sym (cards-fault s _ (sym (called .read-groups .ensures) ∙ told))
+    c .refused-by .ensures ∙ ap refusedBy told ∙ sym (cards-fault (a .form) (a .file .now) _ (sym (called .read-groups .ensures) ∙ told))
 
 read-groups-requires-2 : tie.Need-read-groups-requires-2
 read-groups-requires-2 c κs = search needs
@@ -42,11 +42,11 @@ returns-2 : tie.Need-returns-2
 returns-2 c =
     let called = c .before .before .before in
     let first = called .before .before .before .before in
-    let s = first .before .before .args .file .now in
+    let a = first .before .before .args in
     let told = c .before .enum-told2 .given .1 in
     let cards = sym (first .read-groups .ensures) ∙ called .before .before .card-section .given .1 in
     c .refused-by2 .ensures ∙ ap refusedBy told
-    ∙ sym (shops-fault s _ _ _ cards _ (sym (called .read-groups2 .ensures) ∙ told))
+    ∙ sym (shops-fault (a .form) (a .file .now) _ _ _ cards _ (sym (called .read-groups2 .ensures) ∙ told))
 
 read-claims-requires : tie.Need-read-claims-requires
 read-claims-requires c κs = search needs
@@ -65,34 +65,34 @@ returns-3 c =
     let called = c .before .before .before in
     let second = called .before .before .before .before in
     let first = second .before .before .before .before in
-    let s = first .before .before .args .file .now in
+    let a = first .before .before .args in
     let told = c .before .enum-told3 .given .1 in
     let cards = sym (first .read-groups .ensures) ∙ second .before .before .card-section .given .1 in
     let shops = sym (second .read-groups2 .ensures) ∙ called .before .before .shop-section .given .1 in
     c .refused-by3 .ensures ∙ ap refusedBy told
-    ∙ sym (claims-fault s _ _ _ cards _ _ _ shops _ (sym (called .read-claims .ensures) ∙ told))
+    ∙ sym (claims-fault (a .form) (a .file .now) _ _ _ cards _ _ _ shops _ (sym (called .read-claims .ensures) ∙ told))
 
 returns-4 : tie.Need-returns-4
 returns-4 c =
     let called = c .before .before .before .before in
     let second = called .before .before .before .before in
     let first = second .before .before .before .before in
-    let s = first .before .before .args .file .now in
+    let a = first .before .before .args in
     let cards = sym (first .read-groups .ensures) ∙ second .before .before .card-section .given .1 in
     let shops = sym (second .read-groups2 .ensures) ∙ called .before .before .shop-section .given .1 in
     let claims = sym (called .read-claims .ensures) ∙ c .before .before .claims .given .1 in
-    sym (trailing s _ _ _ cards _ _ _ shops _ _ _ claims (omega arith))
+    sym (trailing (a .form) (a .file .now) _ _ _ cards _ _ _ shops _ _ _ claims (omega arith))
 
 returns-5 : tie.Need-returns-5
 returns-5 c =
     let called = c .before .before .before .before in
     let second = called .before .before .before .before in
     let first = second .before .before .before .before in
-    let s = first .before .before .args .file .now in
+    let a = first .before .before .args in
     let cards = sym (first .read-groups .ensures) ∙ second .before .before .card-section .given .1 in
     let shops = sym (second .read-groups2 .ensures) ∙ called .before .before .shop-section .given .1 in
     let claims = sym (called .read-claims .ensures) ∙ c .before .before .claims .given .1 in
-    sym (accepted s _ _ _ cards _ _ _ shops _ _ _ claims (omega arith))
+    sym (accepted (a .form) (a .file .now) _ _ _ cards _ _ _ shops _ _ _ claims (omega arith))
 
 pub read-spec : {M : Type 1} → statement M
 read-spec =

@@ -70,7 +70,7 @@ returns-2 c =
     let s = a .file .now in
     c .section-of2 .ensures
     ∙ ap (λ (x : Checked). sectionOf x (read .u16-at .result) (a .at + 2) 4) (checked .check-groups .ensures)
-    ∙ ap (λ (n : ℕ). sectionOf (groupsFrom s (a .at + 2) 0 n) n (a .at + 2) 4) (read .u16-at .ensures .0)
+    ∙ ap (λ (n : ℕ). sectionOf (groupsFrom (a .form) s (a .at + 2) 0 n) n (a .at + 2) 4) (read .u16-at .ensures .0)
     ∙ sym (section-fits s (a .at) maxGroups GroupCount _ _
     (sym (counted .check-count .ensures) ∙ read .before .enum-told .given .1))
 

@@ -6,14 +6,11 @@ use borrow.Author.Needs.{needs}
 use Rattle.limits_test.proofs.show.Statement.{statement}
 use Rattle.limits_test.proofs.show.Tie as tie
 
-slice-aggregate-ranked : tie.Need-slice-aggregate-ranked
-slice-aggregate-ranked c = search needs
+slice-aggregate-ranked-both : tie.Need-slice-aggregate-ranked-both
+slice-aggregate-ranked-both c = sym (length-take-le _ _ (omega arith))
 
-slice-aggregate-ranked-2 : tie.Need-slice-aggregate-ranked-2
-slice-aggregate-ranked-2 c = sym (length-take-le _ _ (omega arith))
-
-ranked-requires : tie.Need-ranked-requires
-ranked-requires c κs = search needs
+ranked-both-requires : tie.Need-ranked-both-requires
+ranked-both-requires c κs = search needs
 
 returns : tie.Need-returns
 returns c = search needs
@@ -24,4 +21,4 @@ returns-2 c = search needs
 pub show-spec : {M : Type 1} → statement M
 show-spec =
     tie.close
-    (tie.spec slice-aggregate-ranked slice-aggregate-ranked-2 ranked-requires returns returns-2)
+    (tie.spec slice-aggregate-ranked-both ranked-both-requires returns returns-2)

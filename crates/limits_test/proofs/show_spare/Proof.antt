@@ -6,17 +6,14 @@ use borrow.Author.Needs.{needs}
 use Rattle.limits_test.proofs.show_spare.Statement.{statement}
 use Rattle.limits_test.proofs.show_spare.Tie as tie
 
-slice-aggregate-spare : tie.Need-slice-aggregate-spare
-slice-aggregate-spare c = search needs
+slice-aggregate-spare-both : tie.Need-slice-aggregate-spare-both
+slice-aggregate-spare-both c = sym (length-take-le _ _ (omega arith))
 
-slice-aggregate-spare-2 : tie.Need-slice-aggregate-spare-2
-slice-aggregate-spare-2 c = sym (length-take-le _ _ (omega arith))
+slice-aggregate-spare-both-2 : tie.Need-slice-aggregate-spare-both-2
+slice-aggregate-spare-both-2 c = search needs
 
-slice-aggregate-spare-3 : tie.Need-slice-aggregate-spare-3
-slice-aggregate-spare-3 c = search needs
-
-spare-requires : tie.Need-spare-requires
-spare-requires c κs = search needs
+spare-both-requires : tie.Need-spare-both-requires
+spare-both-requires c κs = search needs
 
 returns : tie.Need-returns
 returns c = search needs
@@ -28,9 +25,8 @@ pub show-spare-spec : {M : Type 1} → statement M
 show-spare-spec =
     tie.close
     (tie.spec
-    slice-aggregate-spare
-    slice-aggregate-spare-2
-    slice-aggregate-spare-3
-    spare-requires
+    slice-aggregate-spare-both
+    slice-aggregate-spare-both-2
+    spare-both-requires
     returns
     returns-2)

@@ -27,7 +27,7 @@ enum-known-reading-2 c = search needs
 print-on-requires : tie.Need-print-on-requires
 print-on-requires c κs =
     let told = c .before .before .before .before .before in
-    accepted-sound _ _ (sym (told .before .before .read .ensures) ∙ told .reading2 .given .1)
+    accepted-sound _ _ _ (sym (told .before .before .read .ensures) ∙ told .reading2 .given .1)
 
 same-length : tie.Need-same-length
 same-length c = search needs

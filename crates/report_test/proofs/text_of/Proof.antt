@@ -24,7 +24,7 @@ returns-2 c = search needs
 write-closed-requires : tie.Need-write-closed-requires
 write-closed-requires c κs =
     let known = c .before .before .before .before in
-    (accepted-sound _ _ (sym (known .before .before .read .ensures) ∙ known .reading .given .1), omega arith)
+    (accepted-sound _ _ _ (sym (known .before .before .read .ensures) ∙ known .reading .given .1), omega arith)
 
 same-length : tie.Need-same-length
 same-length c = search needs

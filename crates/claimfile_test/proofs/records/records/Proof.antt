@@ -12,7 +12,7 @@ sound :
     Sound (a .file .now) (c .told .given .0 .0)
 sound c =
     let read = c .before .before in
-    accepted-sound (read .before .before .args .file .now) _ (sym (read .read .ensures) ∙ c .told .given .1)
+    accepted-sound _ (read .before .before .args .file .now) _ (sym (read .read .ensures) ∙ c .told .given .1)
 
 read-requires : tie.Need-read-requires
 read-requires c κs = search needs

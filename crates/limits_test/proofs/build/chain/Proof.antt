@@ -8,10 +8,10 @@ use Rattle.limits_test.proofs.build.chain.Statement.{statement}
 use Rattle.limits_test.proofs.build.chain.Tie as tie
 
 abbrev Inv-loop : tie.InvT-loop
-Inv-loop count tight limit buf₀ next₀ g₀ buf next g = (g ≤ count) × (length buf ≡ length buf₀)
+Inv-loop count limits buf₀ next₀ g₀ buf next g = (g ≤ count) × (length buf ≡ length buf₀)
 
 abbrev μ-loop : tie.MeasureT-loop
-μ-loop count tight limit buf₀ next₀ g₀ buf next g = count - g
+μ-loop count limits buf₀ next₀ g₀ buf next g = count - g
 
 put-requires : tie.Need-put-requires Inv-loop μ-loop
 put-requires c κs = search needs

@@ -3,8 +3,8 @@ use mathlib.Core.Path.{refl, sym, _∙_}
 use borrow.Author.Needs.{needs}
 use Rattle.claimfile.proofs.AcceptedLaws.{accepted-sound}
 use Rattle.closing.proofs.AnswerLaws.{settles-refused, settles-accepted}
-use Rattle.closing.proofs.settle.Statement.{statement}
-use Rattle.closing.proofs.settle.Tie as tie
+use Rattle.closing.proofs.settle_as.Statement.{statement}
+use Rattle.closing.proofs.settle_as.Tie as tie
 
 read-requires : tie.Need-read-requires
 read-requires c κs = search needs
@@ -18,12 +18,12 @@ enum-known-reading-2 c = search needs
 settle-on-requires : tie.Need-settle-on-requires
 settle-on-requires c κs =
     let told = c .before .before .before .before in
-    accepted-sound _ _ (sym (told .before .before .read .ensures) ∙ told .reading2 .given .1)
+    accepted-sound _ _ _ (sym (told .before .before .read .ensures) ∙ told .reading2 .given .1)
 
 returns : tie.Need-returns
 returns c =
     let told = c .before in
-    settles-refused _ _ _ _ _ _ (sym (told .before .before .read .ensures) ∙ told .reading .given .1) refl
+    settles-refused _ _ _ _ _ _ _ (sym (told .before .before .read .ensures) ∙ told .reading .given .1) refl
 
 same-length : tie.Need-same-length
 same-length c = search needs
@@ -38,11 +38,11 @@ returns-2 : tie.Need-returns-2
 returns-2 c =
     let settled = c .before .before .before .before .before .before in
     let told = settled .before .before .before .before .before in
-    settles-accepted _ _ _ _ _ _ _ _ _ (sym (told .before .before .read .ensures) ∙ told .reading2 .given .1)
+    settles-accepted _ _ _ _ _ _ _ _ _ _ (sym (told .before .before .read .ensures) ∙ told .reading2 .given .1)
     (settled .settle-on .ensures)
 
-pub settle-spec : {M : Type 1} → statement M
-settle-spec =
+pub settle-as-spec : {M : Type 1} → statement M
+settle-as-spec =
     tie.close
     (tie.spec
     read-requires

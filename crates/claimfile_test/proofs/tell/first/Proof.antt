@@ -1,13 +1,10 @@
--- `show_first` reads within the buffer.
+-- `first` reads within the buffer.
 use mathlib.Core.Path.{sym}
 use native.Mathlib.Omega.{arith}
 use borrow.Author.Needs.{needs}
 use lib.Seq.{length-take-le}
-use Rattle.claimfile_test.proofs.tell.show_first.Statement.{statement}
-use Rattle.claimfile_test.proofs.tell.show_first.Tie as tie
-
-text-requires : tie.Need-text-requires
-text-requires c κs = search needs
+use Rattle.claimfile_test.proofs.tell.first.Statement.{statement}
+use Rattle.claimfile_test.proofs.tell.first.Tie as tie
 
 slice-aggregate-reading : tie.Need-slice-aggregate-reading
 slice-aggregate-reading c = sym (length-take-le _ _ (omega arith))
@@ -21,6 +18,6 @@ returns c = search needs
 returns-2 : tie.Need-returns-2
 returns-2 c = search needs
 
-pub show-first-spec : {M : Type 1} → statement M
-show-first-spec =
-    tie.close (tie.spec text-requires slice-aggregate-reading reading-requires returns returns-2)
+pub first-spec : {M : Type 1} → statement M
+first-spec =
+    tie.close (tie.spec slice-aggregate-reading reading-requires returns returns-2)

@@ -1,12 +1,12 @@
--- `write_canonical` meets its contract: the file's first fault is told, then that the buffer is shorter than the file, each with
+-- `write_canonical_as` meets its contract: the file's first fault is told, then that the buffer is shorter than the file, each with
 -- nothing changed; else `canonical_on` writes.
 use mathlib.Core.Path.{sym, _∙_}
 use native.Mathlib.Omega.{arith}
 use borrow.Author.Needs.{needs}
 use Rattle.claimfile.proofs.AcceptedLaws.{accepted-sound}
 use Rattle.canonical.proofs.WriteLaws.{writes-refused, writes-short, writes-written}
-use Rattle.canonical.proofs.write_canonical.Statement.{statement}
-use Rattle.canonical.proofs.write_canonical.Tie as tie
+use Rattle.canonical.proofs.write_canonical_as.Statement.{statement}
+use Rattle.canonical.proofs.write_canonical_as.Tie as tie
 
 read-requires : tie.Need-read-requires
 read-requires c κs = search needs
@@ -22,20 +22,20 @@ returns c =
     let told = c .before .before in
     let found = told .before .before in
     let a = found .before .before .before .args in
-    writes-short (a .file .now) (a .out .now) _ (sym (found .read .ensures) ∙ told .reading2 .given .1) (omega arith)
+    writes-short (a .form) (a .file .now) (a .out .now) _ (sym (found .read .ensures) ∙ told .reading2 .given .1) (omega arith)
 
 canonical-on-requires : tie.Need-canonical-on-requires
 canonical-on-requires c κs =
     let told = c .before .before .before in
     let found = told .before .before in
-    (accepted-sound _ _ (sym (found .read .ensures) ∙ told .reading2 .given .1), omega arith)
+    (accepted-sound _ _ _ (sym (found .read .ensures) ∙ told .reading2 .given .1), omega arith)
 
 returns-2 : tie.Need-returns-2
 returns-2 c =
     let told = c .before in
     let found = told .before .before in
     let a = found .before .before .before .args in
-    writes-refused (a .file .now) (a .out .now) _ (sym (found .read .ensures) ∙ told .reading .given .1)
+    writes-refused (a .form) (a .file .now) (a .out .now) _ (sym (found .read .ensures) ∙ told .reading .given .1)
 
 same-length : tie.Need-same-length
 same-length c = search needs
@@ -46,11 +46,11 @@ returns-3 c =
     let told = written .before .before .before .before in
     let found = told .before .before in
     let a = found .before .before .before .args in
-    writes-written (a .file .now) (a .out .now) _ (sym (found .read .ensures) ∙ told .reading2 .given .1) _ _ (omega arith)
+    writes-written (a .form) (a .file .now) (a .out .now) _ (sym (found .read .ensures) ∙ told .reading2 .given .1) _ _ (omega arith)
     (written .canonical-on .ensures)
 
-pub write-canonical-spec : {M : Type 1} → statement M
-write-canonical-spec =
+pub write-canonical-as-spec : {M : Type 1} → statement M
+write-canonical-as-spec =
     tie.close
     (tie.spec
     read-requires

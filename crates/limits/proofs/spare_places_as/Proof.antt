@@ -1,11 +1,11 @@
--- `spare_places` meets its contract: a file that is entered is ready for the body, and each answer is that of the definition.
+-- `spare_places_as` meets its contract: a file that is entered is ready for the body, and each answer is that of the definition.
 use mathlib.Core.Path.{refl, sym, _∙_}
 use native.Mathlib.Omega.{arith}
 use borrow.Author.Needs.{needs}
 use Rattle.limits.proofs.EntryLaws.{entered-ready}
 use Rattle.limits.proofs.SpareLaws.{spare-value, spare-selected, spare-row, spared-by}
-use Rattle.limits.proofs.spare_places.Statement.{statement}
-use Rattle.limits.proofs.spare_places.Tie as tie
+use Rattle.limits.proofs.spare_places_as.Statement.{statement}
+use Rattle.limits.proofs.spare_places_as.Tie as tie
 
 enter-requires : tie.Need-enter-requires
 enter-requires c κs = search needs
@@ -22,7 +22,7 @@ returns c =
     let read = told .before .before in
     let known = read .before .before in
     let a = known .before .args in
-    spared-by (a .file .now) (a .selection .now) (λ i. omega (arith, known .shared-slice-known .given i)) (a .row) _
+    spared-by (a .form) (a .file .now) (a .selection .now) (λ i. omega (arith, known .shared-slice-known .given i)) (a .row) _
     (read .enter .result) _ (read .enter .ensures) (told .entry2 .given .1)
     (spare-value (a .file .now) (a .selection .now) (a .row) _ (omega arith))
 
@@ -33,7 +33,7 @@ shared-slice-read-if2 c =
     let a = read .before .before .before .args in
     omega (
       arith,
-      entered-ready (a .file .now) (a .selection .now) _ (sym (read .enter .ensures) ∙ told .entry2 .given .1) .long,
+      entered-ready (a .form) (a .file .now) (a .selection .now) _ (sym (read .enter .ensures) ∙ told .entry2 .given .1) .long,
     )
 
 returns-2 : tie.Need-returns-2
@@ -42,7 +42,7 @@ returns-2 c =
     let read = told .before .before in
     let known = read .before .before in
     let a = known .before .args in
-    spared-by (a .file .now) (a .selection .now) (λ i. omega (arith, known .shared-slice-known .given i)) (a .row) _
+    spared-by (a .form) (a .file .now) (a .selection .now) (λ i. omega (arith, known .shared-slice-known .given i)) (a .row) _
     (read .enter .result) _ (read .enter .ensures) (told .entry2 .given .1)
     (spare-selected (a .file .now) (a .selection .now) (a .row) _ (omega arith) (c .if2 .taken))
 
@@ -51,14 +51,14 @@ spare-on-requires c κs =
     let told = c .before .before .before .before .before in
     let read = told .before .before in
     let a = read .before .before .before .args in
-    (entered-ready (a .file .now) (a .selection .now) _ (sym (read .enter .ensures) ∙ told .entry2 .given .1), omega arith)
+    (entered-ready (a .form) (a .file .now) (a .selection .now) _ (sym (read .enter .ensures) ∙ told .entry2 .given .1), omega arith)
 
 returns-3 : tie.Need-returns-3
 returns-3 c =
     let read = c .before .before .before in
     let known = read .before .before in
     let a = known .before .args in
-    spared-by (a .file .now) (a .selection .now) (λ i. omega (arith, known .shared-slice-known .given i)) (a .row) _
+    spared-by (a .form) (a .file .now) (a .selection .now) (λ i. omega (arith, known .shared-slice-known .given i)) (a .row) _
     (read .enter .result) _ (read .enter .ensures) (c .before .entry .given .1) refl
 
 returns-4 : tie.Need-returns-4
@@ -67,13 +67,13 @@ returns-4 c =
     let read = told .before .before in
     let known = read .before .before in
     let a = known .before .args in
-    spared-by (a .file .now) (a .selection .now) (λ i. omega (arith, known .shared-slice-known .given i)) (a .row) _
+    spared-by (a .form) (a .file .now) (a .selection .now) (λ i. omega (arith, known .shared-slice-known .given i)) (a .row) _
     (read .enter .result) _ (read .enter .ensures) (told .entry2 .given .1)
     (spare-row (a .file .now) (a .selection .now) (a .row) _ (omega arith) (c .before .if2 .left) (c .spare-on .result)
     (c .spare-on .ensures .is))
 
-pub spare-places-spec : {M : Type 1} → statement M
-spare-places-spec =
+pub spare-places-as-spec : {M : Type 1} → statement M
+spare-places-as-spec =
     tie.close
     (tie.spec
     enter-requires

@@ -1,10 +1,10 @@
--- `write_slip` meets its contract: the file's first fault is told with nothing changed, and for an accepted file `slip_on` writes.
+-- `write_slip_as` meets its contract: the file's first fault is told with nothing changed, and for an accepted file `slip_on` writes.
 use mathlib.Core.Path.{sym, _∙_}
 use borrow.Author.Needs.{needs}
 use Rattle.claimfile.proofs.AcceptedLaws.{accepted-sound}
 use Rattle.slip.proofs.WriteLaws.{slips-refused, slips-accepted}
-use Rattle.slip.proofs.write_slip.Statement.{statement}
-use Rattle.slip.proofs.write_slip.Tie as tie
+use Rattle.slip.proofs.write_slip_as.Statement.{statement}
+use Rattle.slip.proofs.write_slip_as.Tie as tie
 
 read-requires : tie.Need-read-requires
 read-requires c κs = search needs
@@ -18,13 +18,13 @@ enum-known-reading-2 c = search needs
 slip-on-requires : tie.Need-slip-on-requires
 slip-on-requires c κs =
     let told = c .before .before in
-    accepted-sound _ _ (sym (told .before .before .read .ensures) ∙ told .reading2 .given .1)
+    accepted-sound _ _ _ (sym (told .before .before .read .ensures) ∙ told .reading2 .given .1)
 
 returns : tie.Need-returns
 returns c =
     let told = c .before in
     let a = told .before .before .before .before .before .before .args in
-    slips-refused (a .file .now) (a .selection .now) (a .out .now) _
+    slips-refused (a .form) (a .file .now) (a .selection .now) (a .out .now) _
     (sym (told .before .before .read .ensures) ∙ told .reading .given .1)
 
 same-length : tie.Need-same-length
@@ -35,11 +35,11 @@ returns-2 c =
     let written = c .before .before in
     let told = written .before .before .before in
     let a = told .before .before .before .before .before .before .args in
-    slips-accepted (a .file .now) (a .selection .now) (a .out .now) _ _ _
+    slips-accepted (a .form) (a .file .now) (a .selection .now) (a .out .now) _ _ _
     (sym (told .before .before .read .ensures) ∙ told .reading2 .given .1) (written .slip-on .ensures)
 
-pub write-slip-spec : {M : Type 1} → statement M
-write-slip-spec =
+pub write-slip-as-spec : {M : Type 1} → statement M
+write-slip-as-spec =
     tie.close
     (tie.spec
     read-requires
