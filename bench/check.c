@@ -17,11 +17,18 @@ static int same(const struct outcome *a, const struct outcome *b, unsigned rows,
     return !with_choice || memcmp(a->choice, b->choice, rows) == 0;
 }
 
+/* What two families are named for. */
+static void check_named(const struct outcome *ours, unsigned family, unsigned rows, unsigned number) {
+    if (family == NOTHING) check(ours->kept == 0, "something fits", "ours", family, rows, number);
+    if (family == EVERYTHING) check(ours->kept == rows, "something does not fit", "ours", family, rows, number);
+}
+
 /* Each contestant settles a day as ours does, and so does our call for stored files, since the day is a new file. */
 static void check_settled(const struct file *day, unsigned family, unsigned rows, unsigned number) {
     static struct outcome ours, theirs;
     ours_settle(day->bytes, day->length, &ours);
     check(ours.refusal == 0, "refused", "ours", family, rows, number);
+    check_named(&ours, family, rows, number);
     memset(&theirs, 7, sizeof theirs);
     ours_settle_stored(day->bytes, day->length, &theirs);
     check(same(&theirs, &ours, rows, 1), "another answer for a stored file", "ours", family, rows, number);

@@ -6,19 +6,17 @@ const char *const family_names[FAMILIES] = {
     "many ties",      "all earned",  "all ordinary",   "nothing fits", "everything fits",
 };
 
-enum { FLAT, CHAINS, FORESTS, BINARY, PATHS, TIES, EARNED, ORDINARY, NOTHING, EVERYTHING };
-
 /* ---- the shape of the groups ---- */
 
 static void hang_binary(struct day *d, unsigned side) {
     for (unsigned g = 1; g < d->groups[side]; g++) d->parent[side][g] = (uint16_t)((g - 1) / 2);
 }
 
-/* The groups of a flat day are at the top already. There is one chain on the even days, else there are four. */
+/* A flat day has pairs of groups, one in the other. There is one chain on the even days, else there are four. */
 static void hang_groups(struct day *d, unsigned side, unsigned family, unsigned number) {
     switch (family) {
     case FLAT:
-    case PATHS: break;
+    case PATHS: hang_chains(d, side, (d->groups[side] + 1) / 2); break;
     case CHAINS: hang_chains(d, side, number % 2 ? 4 : 1); break;
     case BINARY: hang_binary(d, side); break;
     default: hang_forest(d, side, 0, 8);
@@ -65,25 +63,44 @@ static void swap_rows(struct day *d, unsigned a, unsigned b) {
 
 /*
  * Paths card 0, shop 0, card 1, shop 1, ...: the links that lead on (shop g to card g + 1) come first in the file, so whoever takes
- * rows in order has to turn whole paths round. There are more paths on later days, and on odd days the rows are mixed.
+ * rows in order has to turn whole paths round. There are more paths on later days, and on odd days the rows are mixed. A path goes over
+ * pairs of groups, and each link is there twice.
  */
 static void draw_paths(struct day *d, unsigned number) {
-    unsigned groups = d->groups[CARD], half = d->rows / 2, shift = number / 2 * 2;
-    unsigned length = groups >> shift ? groups >> shift : 1;
+    unsigned pairs = d->groups[CARD] > 1 ? d->groups[CARD] / 2 : 1, half = d->rows / 2, shift = number / 2 * 2;
+    unsigned length = pairs >> shift ? pairs >> shift : 1;
     for (unsigned c = 0; c < d->rows; c++) {
-        unsigned g = c % half;
-        int leads_on = c < half && g % length != length - 1 && g + 1 < groups;
+        unsigned g = c % half % pairs;
+        int leads_on = c < half && g % length != length - 1 && g + 1 < pairs;
         d->group[CARD][c] = (uint16_t)(leads_on ? g + 1 : g);
         d->group[SHOP][c] = (uint16_t)g;
     }
     for (unsigned c = d->rows - 1; number % 2 && c > 0; c--) swap_rows(d, c, below(c + 1));
 }
 
+/*
+ * The rows of a flat day name the inner groups of the pairs, which come after the outer ones. All have limit 1. So an earned row, which
+ * does not count in the inner card group, is held by the outer one as an ordinary row is, and the day is a matching of pairs. One group
+ * alone is no pair.
+ */
+static void name_inner(struct day *d) {
+    for (unsigned side = 0; side < 2; side++) {
+        unsigned pairs = d->groups[side] / 2, outer = d->groups[side] - pairs;
+        for (unsigned c = 0; pairs > 0 && c < d->rows; c++) d->group[side][c] = (uint16_t)(outer + d->group[side][c] % pairs);
+    }
+}
+
 /* ---- the limits ---- */
 
-static unsigned top_of(const struct day *d, int side, unsigned g) {
+static unsigned top_of(const struct day *d, unsigned side, unsigned g) {
     while (d->parent[side][g] != TOP) g = d->parent[side][g];
     return g;
+}
+
+/* Whether a row counts in a group at the top of a side that has limit 0. */
+static int is_shut(const struct day *d, unsigned side, unsigned c) {
+    unsigned g = counts_from(d, side, c);
+    return g != TOP && d->limit[side][top_of(d, side, g)] == 0;
 }
 
 /* The limit of a group to which `come` rows come: less than that by a cut below `cuts`, or, with no cuts, a part from half to all. */
@@ -93,7 +110,10 @@ static unsigned draw_limit(unsigned come, unsigned cuts) {
     return come > cut ? come - cut : come > 0;
 }
 
-/* From the last group up: how many rows come to a group when the groups below it are full, and a limit for them. */
+/*
+ * From the last group up: how many rows come to a group when the groups below it are full, and a limit for them. Each row comes to the
+ * group that it names. An earned row counts above its card group, so that there more rows come than the limit was drawn for.
+ */
 static void rising_limits(struct day *d, unsigned cuts) {
     for (int side = 0; side < 2; side++) {
         unsigned come[MOST_GROUPS] = {0};
@@ -112,7 +132,7 @@ static void shut_all(struct day *d) {
         for (unsigned g = 0; g < d->groups[side]; g++)
             if (d->parent[side][g] == TOP && (g == 0 || below(2))) d->limit[side][g] = 0;
     for (unsigned c = 0; c < d->rows; c++)
-        while (d->limit[CARD][top_of(d, CARD, d->group[CARD][c])] && d->limit[SHOP][top_of(d, SHOP, d->group[SHOP][c])]) name_groups(d, c);
+        while (!is_shut(d, CARD, c) && !is_shut(d, SHOP, c)) name_groups(d, c);
 }
 
 /* With cuts of 0 to 2 about half of the rows fit each side alone. The limits of a flat day are 1 already. */
@@ -139,6 +159,7 @@ void make_day(unsigned family, unsigned rows, unsigned number, struct file *file
         draw_equal_rows(&d);
     else
         draw_any_rows(&d);
+    if (family == FLAT || family == PATHS) name_inner(&d);
     draw_kinds(&d, family, number);
     set_limits(&d, family);
     d = lowered(&d);

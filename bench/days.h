@@ -4,10 +4,10 @@
 
 #include "day.h"
 
-enum {
-    FAMILIES = 10,
-    DAYS = 6 /* of each family and size */
-};
+/* The families, by their numbers. */
+enum { FLAT, CHAINS, FORESTS, BINARY, PATHS, TIES, EARNED, ORDINARY, NOTHING, EVERYTHING, FAMILIES };
+
+enum { DAYS = 6 /* of each family and size */ };
 
 extern const char *const family_names[FAMILIES];
 

@@ -7,7 +7,10 @@ struct arcs {
     uint16_t from[MOST_HALVES / 2], to[MOST_HALVES / 2], capacity[MOST_HALVES / 2];
 };
 
-/* Flow goes from the source down the cards, along rows and up the shops to the sink. */
+/*
+ * Flow goes from the source down the cards, along rows and up the shops to the sink. A row that counts in no card group starts at the
+ * source.
+ */
 static void list_arcs(struct arcs *a, const struct network *n, const struct day *d, unsigned least) {
     unsigned cards = d->groups[0];
     for (unsigned g = 0; g < cards; g++) {
@@ -21,7 +24,8 @@ static void list_arcs(struct arcs *a, const struct network *n, const struct day 
         a->capacity[cards + h] = d->limit[1][h];
     }
     for (unsigned c = 0; c < d->rows; c++) {
-        a->from[n->groups + c] = d->group[0][c];
+        unsigned card = counts_from(d, 0, c);
+        a->from[n->groups + c] = (uint16_t)(card == TOP ? n->source : card);
         a->to[n->groups + c] = (uint16_t)(cards + d->group[1][c]);
         a->capacity[n->groups + c] = d->kind[c] >= least;
     }

@@ -1,7 +1,8 @@
 // LEMON's NetworkSimplex on a day: the most earned rows and then the most rows. It knows no row order.
 //
 // Every arc leads from the source down the cards, along a row and up the shops to the sink; one arc back from the sink closes the
-// circle. A row costs minus its weight, all else is free, and the cheapest circulation is a heaviest choice.
+// circle. A row that counts in no card group starts at the source. A row costs minus its weight, all else is free, and the cheapest
+// circulation is a heaviest choice.
 #include <lemon/network_simplex.h>
 #include <lemon/static_graph.h>
 #include <utility>
@@ -27,8 +28,10 @@ void list_arcs(const struct day &d, std::vector<Arc> &arcs) {
     for (int g = 0; g < cards; g++) arcs.push_back({d.parent[0][g] == TOP ? groups : d.parent[0][g], g, d.limit[0][g], 0});
     for (unsigned h = 0; h < d.groups[1]; h++)
         arcs.push_back({cards + (int)h, d.parent[1][h] == TOP ? groups + 1 : cards + d.parent[1][h], d.limit[1][h], 0});
-    for (unsigned c = 0; c < d.rows; c++)
-        arcs.push_back({d.group[0][c], cards + d.group[1][c], 1, d.kind[c] ? -(int)(d.rows + 1) : -1});
+    for (unsigned c = 0; c < d.rows; c++) {
+        int card = (int)counts_from(&d, 0, c);
+        arcs.push_back({card == TOP ? groups : card, cards + d.group[1][c], 1, d.kind[c] ? -(int)(d.rows + 1) : -1});
+    }
     arcs.push_back({groups + 1, groups, (int)d.rows, 0});
 }
 

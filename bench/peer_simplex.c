@@ -56,8 +56,10 @@ static void list_arcs(struct simplex *s, const struct day *d) {
         set_arc(s, g, d->parent[0][g] == TOP ? source : d->parent[0][g], g, d->limit[0][g], 0);
     for (unsigned h = 0; h < d->groups[1]; h++)
         set_arc(s, cards + h, cards + h, d->parent[1][h] == TOP ? sink : cards + d->parent[1][h], d->limit[1][h], 0);
-    for (unsigned c = 0; c < d->rows; c++)
-        set_arc(s, s->groups + c, d->group[0][c], cards + d->group[1][c], 1, d->kind[c] ? -(int)(d->rows + 1) : -1);
+    for (unsigned c = 0; c < d->rows; c++) {
+        unsigned card = counts_from(d, 0, c);
+        set_arc(s, s->groups + c, card == TOP ? source : card, cards + d->group[1][c], 1, d->kind[c] ? -(int)(d->rows + 1) : -1);
+    }
     set_arc(s, s->arcs - 1, sink, source, (int)d->rows, 0);
 }
 

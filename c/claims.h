@@ -7,6 +7,10 @@
  * limit that is above its parent's is read as its parent's, which is lowered already by then. So a group with limit 40 in a group with
  * limit 20 is read with limit 20. A new file may be given to either call, and the answer is the same.
  *
+ * Each claim names a card group and a shop group. On the shop side it counts in the group that it names and in every group above that one.
+ * On the card side an ordinary claim does so too; an earned claim does not count in the card group that it names, only in the groups above
+ * that one. So an earned claim that names a card group at the top counts in no card group.
+ *
  * Link with libtill.a. It is built for Linux (ELF, System V calling convention) on x86-64, any such processor, and may be linked at any
  * address. Of the C library it needs memset and memcpy at most. It has no variables of its own and uses no heap; docs/PERFORMANCE.md says
  * how much code it has and how much stack it takes.
@@ -32,7 +36,7 @@ extern "C" {
  * The version: which library this header describes. It rises by one with each release that changes a call, a needed length or an answer.
  * claims_version() tells the version of the library that a program is linked with.
  */
-#define CLAIMS_VERSION 5u
+#define CLAIMS_VERSION 6u
 
 /* The most that a file may hold. */
 #define CLAIMS_MOST_GROUPS 256u   /* in one section, card groups or shop groups */
@@ -135,9 +139,9 @@ struct claims_fits_and_rank_answer claims_fits_and_rank_stored(
 
 /*
  * How many further claims like a row would fit beside a selection of a file's rows: the smallest, over all groups that the row counts in
- * on both sides, of the group's limit less the selected rows that count there. It is 0 where the selection itself does not fit both
- * sides. A number of 1 or more says that the selection with the row added fits both sides, and 0 that it does not. For a stored file it is
- * the same by the limits as they stand in it and by the lowered ones.
+ * on both sides, of the group's limit less the selected rows that count there. Where the row counts in no card group, its shop groups alone
+ * decide. It is 0 where the selection itself does not fit both sides. A number of 1 or more says that the selection with the row added fits
+ * both sides, and 0 that it does not. For a stored file it is the same by the limits as they stand in it and by the lowered ones.
  *
  * file, file_length              the claim file
  * selection, selection_length    one byte a row, as above
@@ -179,11 +183,12 @@ struct claims_settle_answer claims_settle_stored(
 /*
  * Writes the slip for the counter, a text for a roll of 32 columns: which rows a selection keeps. The selection need not fit any limit.
  * Every line has 32 printable ASCII characters and a line feed; no byte 0 follows the text. The first line has the number of claims, of
- * kept earned rows and of kept rows; then comes a line for each kept row, in row order, with the row, its card group, its shop group and
- * EARNED or PLAIN. Of three claims with row 0 kept:
+ * kept earned rows and of kept rows; then comes a line for each kept row, in row order, with the row, the card group and the shop group
+ * that it names, and EARNED or PLAIN. Of three claims with rows 0 and 1 kept:
  *
- *     CLAIMS    3EARNED    1KEPT     1
+ *     CLAIMS    3EARNED    1KEPT     2
  *            0       0       0  EARNED
+ *            1       0       1   PLAIN
  *
  * The length of the selection and that of the slip are judged (8) before the selection's bytes (9). A longer slip is accepted; what lies
  * past the written length is neither read nor changed. Where a refusal is answered, no byte is changed.
@@ -202,12 +207,12 @@ struct claims_write_slip_answer claims_write_slip_stored(
     uint8_t *slip, size_t slip_length);
 
 /*
- * Writes the canonical form of a file: one file for all that differ only in how their groups are numbered and in groups without claims.
- * Groups with no claim in them or beneath them are dropped. The others are numbered by the lowest row that counts in them, a parent
- * before its child where these are equal. Rows keep their order and kinds. Two files give the same bytes exactly where they are the same
- * day in this sense. The written file is accepted by every call, and settled it keeps the same rows. A stored file is compared and written
- * with its limits lowered, so that what is written is a new file. A longer buffer is accepted; what lies past the written length is
- * neither read nor changed. Where a refusal is answered, no byte is changed.
+ * Writes the canonical form of a file: one file for all that differ only in how their groups are numbered and in groups that no claim
+ * uses. A claim uses the groups that it names and all groups above these, be it earned or not. Groups that no claim uses are dropped. The
+ * others are numbered by the lowest row that uses them, a parent before its child where these are equal. Rows keep their order and kinds.
+ * Two files give the same bytes exactly where they are the same day in this sense. The written file is accepted by every call, and settled
+ * it keeps the same rows. A stored file is compared and written with its limits lowered, so that what is written is a new file. A longer
+ * buffer is accepted; what lies past the written length is neither read nor changed. Where a refusal is answered, no byte is changed.
  *
  * file, file_length              the claim file
  * canonical, canonical_length    CLAIMS_CANONICAL_LENGTH(file_length) bytes at least, as many as the file has

@@ -179,7 +179,7 @@ int fits_side(const struct day *d, unsigned side, const uint8_t *selection) {
     unsigned count[MOST_GROUPS] = {0};
     for (unsigned c = 0; c < d->rows; c++) {
         if (!selection[c]) continue;
-        for (unsigned g = d->group[side][c]; g != TOP; g = d->parent[side][g])
+        for (unsigned g = counts_from(d, side, c); g != TOP; g = d->parent[side][g])
             if (++count[g] > d->limit[side][g]) return 0;
     }
     return 1;
@@ -187,21 +187,22 @@ int fits_side(const struct day *d, unsigned side, const uint8_t *selection) {
 
 int fits_day(const struct day *d, const uint8_t *selection) { return fits_side(d, CARD, selection) && fits_side(d, SHOP, selection); }
 
+/* The cell of a group among the counts of a side, of which the last is for the top. */
+static unsigned cell_of(unsigned g) { return g < MOST_GROUPS ? g : MOST_GROUPS; }
+
 struct ranked rank_side(const struct day *d, unsigned side, const uint8_t *selection) {
-    unsigned come[MOST_GROUPS] = {0};
+    unsigned come[MOST_GROUPS + 1] = {0};
     struct ranked r = {1, 0};
-    for (unsigned c = 0; c < d->rows; c++) come[d->group[side][c]] += selection[c];
+    for (unsigned c = 0; c < d->rows; c++) come[cell_of(counts_from(d, side, c))] += selection[c];
     for (unsigned g = d->groups[side]; g-- > 0;) {
         unsigned pass = come[g];
         if (pass > d->limit[side][g]) {
             pass = d->limit[side][g];
             r.fits = 0;
         }
-        if (d->parent[side][g] == TOP)
-            r.rank += pass;
-        else
-            come[d->parent[side][g]] += pass;
+        come[cell_of(d->parent[side][g])] += pass;
     }
+    r.rank = come[MOST_GROUPS];
     return r;
 }
 
@@ -219,7 +220,7 @@ struct ranked rank_greedily(const struct day *d, unsigned side, const uint8_t *s
     memcpy(places, d->limit[side], d->groups[side] * sizeof *places);
     for (unsigned c = 0; c < d->rows; c++) {
         if (!selection[c]) continue;
-        unsigned taken = take_places(places, d->parent[side], d->group[side][c]);
+        unsigned taken = take_places(places, d->parent[side], counts_from(d, side, c));
         r.rank += taken;
         r.fits &= taken;
     }
@@ -293,7 +294,7 @@ int certified(const struct day *d, unsigned kinds, const uint8_t *choice, const 
         if (paid > most) return 0;
         total += paid;
         for (int side = 0; side < 2; side++)
-            for (unsigned g = d->group[side][c]; g != TOP; g = d->parent[side][g]) paid += marks[side][g];
+            for (unsigned g = counts_from(d, side, c); g != TOP; g = d->parent[side][g]) paid += marks[side][g];
         if (paid < weight_of(d, d->kind[c])) return 0;
     }
     return total == worth_of(d, choice);

@@ -37,7 +37,7 @@ enum { CARD, SHOP };
 /*
  * A day as tables. groups[CARD] is the number of card groups and groups[SHOP] that of shop groups; parent[SHOP][3] is the parent of
  * shop group 3; group[CARD][7] is the card group that row 7 names; kind[7] is 1 where row 7 is earned, and 0 where it is ordinary.
- * The solver's tests also use kinds up to 3, and the group TOP for a row that is counted in no group of that side.
+ * The solver's tests also use kinds up to 3, and the group TOP for a row that names no group of that side and counts in none.
  */
 struct day {
     unsigned groups[2];
@@ -122,9 +122,15 @@ struct day random_day(unsigned groups, unsigned rows);
 unsigned count_rows(const struct day *d, const uint8_t *selection, unsigned least);
 
 /*
- * Whether the selected rows fit a side, or both sides: each of them is counted at the group that it names and at every group above that,
- * and no group counts more than its limit.
+ * The group where a row begins to count on a side; it counts there and in every group above. It is the group that the row names, but on
+ * the card side, for an earned row, whose kind is 1 or more, that group's parent. TOP where the row counts in no group of the side.
  */
+static inline unsigned counts_from(const struct day *d, unsigned side, unsigned row) {
+    unsigned named = d->group[side][row];
+    return side == CARD && d->kind[row] > 0 && named != TOP ? d->parent[CARD][named] : named;
+}
+
+/* Whether the selected rows fit a side, or both sides: no group counts more of them than its limit. */
 int fits_side(const struct day *d, unsigned side, const uint8_t *selection);
 int fits_day(const struct day *d, const uint8_t *selection);
 
@@ -132,9 +138,9 @@ int fits_day(const struct day *d, const uint8_t *selection);
  * Whether the selected rows fit a side, and how many of them do together at the most, which is their rank: found in three ways.
  *
  * `rank_side`      from the last group to the first, what comes to a group is passed on to its parent, but no more than its limit. What
- *                  comes to the top is the rank. No row may name the group TOP.
- * `rank_greedily`  the selected rows in order: a row is kept where the group that it names, and every group above that, has a place left
- *                  beside the rows kept before it. The kept rows are the rank.
+ *                  comes to the top is the rank; the rows that count in no group are there from the beginning.
+ * `rank_greedily`  the selected rows in order: a row is kept where every group that it counts in has a place left beside the rows kept
+ *                  before it. The kept rows are the rank.
  * `rank_by_search` the largest of all subsets of the selected rows that fit the side, for a day of at most 16 rows or so.
  */
 struct ranked {

@@ -47,7 +47,7 @@ static void written(const char *what, const struct file *f, size_t cells, const 
 
 /* ---- The form by a sort ---- */
 
-/* Of the groups of a side: the lowest row that counts in each, MOST_ROWS where none does, and how many groups are above it. */
+/* Of the groups of a side: the lowest row that names it or a group beneath it, MOST_ROWS where none does, and how many are above it. */
 static unsigned lowest[MOST_GROUPS], depth[MOST_GROUPS];
 
 static int earlier(const void *x, const void *y) {
@@ -226,6 +226,25 @@ static void read_sample(const char *name, struct file *f) {
 }
 
 /*
+ * The form goes by what rows name, though an earned row does not count in the card group that it names. Card groups 0 (limit 7), 1 (limit
+ * 5), 2 (limit 4, in 0) and 3 (limit 3, no claim); row 0 is earned and names 1, row 1 is earned and names 2, row 2 is ordinary and names 1.
+ * No row counts in 2, but it is not dropped, since row 1 names it. Row 0 does not count in 1, but it makes 1 the first in the form; then
+ * come 0 and 2, and 3 is dropped.
+ */
+static void by_naming(void) {
+    static struct file f, form;
+    struct day d = flat_day(4, 0, 1, 9), e = flat_day(3, 0, 1, 9);
+    d.limit[CARD][0] = 7, d.limit[CARD][1] = 5, d.limit[CARD][2] = 4, d.limit[CARD][3] = 3, d.parent[CARD][2] = 0;
+    e.limit[CARD][0] = 5, e.limit[CARD][1] = 7, e.limit[CARD][2] = 4, e.parent[CARD][2] = 1;
+    add_row(&d, 1, 0, 1), add_row(&d, 2, 0, 1), add_row(&d, 1, 0, 0);
+    add_row(&e, 0, 0, 1), add_row(&e, 2, 0, 1), add_row(&e, 0, 0, 0);
+    write_day(&d, &f);
+    write_day(&e, &form);
+    written("card groups that earned rows name", &f, f.length, &form);
+    one_day(&d);
+}
+
+/*
  * The sample: card groups 0 (limit 9, no claim), 1 (limit 7), 2 (limit 5, in 1) and 3 (limit 2); row 0 names 3, row 1 names 2. In its form
  * card group 3 is 0, and 1 and 2 keep their numbers, since group 0 is dropped.
  */
@@ -239,6 +258,7 @@ static void worked(void) {
     write_day(&empty, &form);
     written("no claim: every group is dropped", &f, f.length, &form);
     one_day(&empty);
+    by_naming();
     part_done("worked files");
 }
 

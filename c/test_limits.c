@@ -79,17 +79,21 @@ static void refusals(void) {
     spare("row far too high", DAY_A, BYTES("\1\1\1"), 0xffffffff, CLAIMS_VALUE, 0);
     spare("no row", DAY_E, NOTHING, 0, CLAIMS_VALUE, 0);
     spare("row selected", DAY_A, BYTES("\0\1\0"), 1, CLAIMS_SELECTED, 0);
-    spare("row selected, the selection does not fit", DAY_A, BYTES("\1\1\0"), 1, CLAIMS_SELECTED, 0);
+    spare("row selected, the selection does not fit", DAY_A, BYTES("\1\0\1"), 2, CLAIMS_SELECTED, 0);
     part_done("refusals");
 }
 
-/* Days G and H of document 01, and the rest of the small selections of day A. */
+/*
+ * Days G and H of document 01, and the rest of the small selections of day A. Row 0 is earned and its card group is at the top: it counts
+ * in no card group, and its shop group alone holds it. Rows 0 and 1 fit both sides; rows 0 and 2 fit card and not shop.
+ */
 static void worked_days(void) {
-    ranked("day G: rows 0 and 1", DAY_A, BYTES("\1\1\0"), CLAIMS_CARD, 0, 0, 1);
-    ranked("day G: all rows", DAY_A, BYTES("\1\1\1"), CLAIMS_CARD, 0, 0, 2);
+    ranked("day G: rows 0 and 1", DAY_A, BYTES("\1\1\0"), CLAIMS_CARD, 0, 1, 2);
+    ranked("day G: all rows", DAY_A, BYTES("\1\1\1"), CLAIMS_CARD, 0, 1, 3);
     ranked("day G: no row", DAY_A, BYTES("\0\0\0"), CLAIMS_CARD, 0, 1, 0);
-    ranked("day H: card", DAY_A, BYTES("\1\1\0"), CLAIMS_CARD, 0, 0, 1);
-    ranked("day H: shop", DAY_A, BYTES("\1\1\0"), CLAIMS_SHOP, 0, 1, 2);
+    ranked("day H: card", DAY_A, BYTES("\1\0\1"), CLAIMS_CARD, 0, 1, 2);
+    ranked("day H: shop", DAY_A, BYTES("\1\0\1"), CLAIMS_SHOP, 0, 0, 1);
+    ranked("day A: rows 0 and 1, shop", DAY_A, BYTES("\1\1\0"), CLAIMS_SHOP, 0, 1, 2);
     ranked("day A: rows 1 and 2, card", DAY_A, BYTES("\0\1\1"), CLAIMS_CARD, 0, 1, 2);
     ranked("day A: rows 1 and 2, shop", DAY_A, BYTES("\0\1\1"), CLAIMS_SHOP, 0, 1, 2);
     ranked("day A: all rows, shop", DAY_A, BYTES("\1\1\1"), CLAIMS_SHOP, 0, 0, 2);
@@ -97,12 +101,63 @@ static void worked_days(void) {
     ranked("day E: shop", DAY_E, NOTHING, CLAIMS_SHOP, 0, 1, 0);
     spare("day A: row 0 alone", DAY_A, BYTES("\0\0\0"), 0, 0, 1);
     spare("day A: row 2 beside row 1", DAY_A, BYTES("\0\1\0"), 2, 0, 1);
-    spare("day A: row 0 beside row 1", DAY_A, BYTES("\0\1\0"), 0, 0, 0);
+    spare("day A: row 0 beside row 1", DAY_A, BYTES("\0\1\0"), 0, 0, 1);
+    spare("day A: row 1 beside row 0", DAY_A, BYTES("\1\0\0"), 1, 0, 1);
     spare("day A: row 0 beside row 2", DAY_A, BYTES("\0\0\1"), 0, 0, 0);
     spare("day A: row 2 beside rows 0 and 1", DAY_A, BYTES("\1\1\0"), 2, 0, 0);
+    spare("day A: row 1 beside rows 0 and 2, which do not fit", DAY_A, BYTES("\1\0\1"), 1, 0, 0);
     spare("the greatest limit", BYTES("\1\0\xff\xff\xff\xff\1\0\xff\xff\xff\xff\1\0\0\0\0\0\0"), BYTES("\0"), 0, 0, 65535);
     spare("a limit of 0", BYTES("\1\0\xff\xff\xff\xff\1\0\xff\xff\0\0\1\0\0\0\0\0\0"), BYTES("\0"), 0, 0, 0);
     part_done("worked days");
+}
+
+/* The file of a day. */
+static struct bytes file_of(const struct day *d) {
+    static struct file f;
+    write_day(d, &f);
+    return (struct bytes){f.bytes, f.length};
+}
+
+/* A card group at the top: an earned row that names it is held by neither its limit nor the rows in it, but by its shop group alone. */
+static void earned_at_the_top(void) {
+    struct day d = flat_day(1, 0, 1, TOP);
+    add_row(&d, 0, 0, 1), add_row(&d, 0, 0, 0), add_row(&d, 0, 0, 1);
+    ranked("limit 0: the earned rows", file_of(&d), BYTES("\1\0\1"), CLAIMS_CARD, 0, 1, 2);
+    ranked("limit 0: all rows", file_of(&d), BYTES("\1\1\1"), CLAIMS_CARD, 0, 0, 2);
+    spare("limit 0: an earned row alone", file_of(&d), BYTES("\0\0\0"), 0, 0, TOP);
+    spare("limit 0: an earned row beside another", file_of(&d), BYTES("\0\0\1"), 0, 0, TOP - 1);
+    spare("limit 0: an ordinary row", file_of(&d), BYTES("\0\0\0"), 1, 0, 0);
+    spare("limit 0: an earned row beside an ordinary one, which does not fit", file_of(&d), BYTES("\0\1\0"), 0, 0, 0);
+    d.limit[CARD][0] = 1, d.limit[SHOP][0] = 9;
+    ranked("limit 1: all rows", file_of(&d), BYTES("\1\1\1"), CLAIMS_CARD, 0, 1, 3);
+    spare("limit 1: an earned row beside the ordinary one", file_of(&d), BYTES("\0\1\0"), 0, 0, 8);
+    spare("limit 1: the ordinary row beside the earned ones", file_of(&d), BYTES("\1\0\1"), 1, 0, 1);
+    part_done("earned rows at the top");
+}
+
+/*
+ * Card group 1 in group 0, and four rows that name group 1: ordinary, earned, ordinary, earned. The ordinary ones count in both groups, the
+ * earned ones in group 0. The last limit is above its parent's, which a stored file may have; lowered it is 3.
+ */
+static void earned_in_a_group(void) {
+    struct day d = flat_day(2, 3, 1, 9);
+    d.parent[CARD][1] = 0, d.limit[CARD][1] = 1;
+    for (unsigned c = 0; c < 4; c++) add_row(&d, 1, 0, c % 2);
+    ranked("limits 3 and 1: one ordinary row, two earned", file_of(&d), BYTES("\1\1\0\1"), CLAIMS_CARD, 0, 1, 3);
+    ranked("limits 3 and 1: two ordinary rows", file_of(&d), BYTES("\1\0\1\0"), CLAIMS_CARD, 0, 0, 1);
+    ranked("limits 3 and 1: all rows", file_of(&d), BYTES("\1\1\1\1"), CLAIMS_CARD, 0, 0, 3);
+    spare("limits 3 and 1: an earned row beside an ordinary one", file_of(&d), BYTES("\1\0\0\0"), 3, 0, 2);
+    spare("limits 3 and 1: an ordinary row beside an ordinary one", file_of(&d), BYTES("\1\0\0\0"), 2, 0, 0);
+    spare("limits 3 and 1: an ordinary row beside two earned ones", file_of(&d), BYTES("\0\1\0\1"), 0, 0, 1);
+    d.limit[CARD][0] = d.limit[CARD][1] = 0;
+    ranked("limits 0 and 0: an earned row", file_of(&d), BYTES("\0\1\0\0"), CLAIMS_CARD, 0, 0, 0);
+    spare("limits 0 and 0: an earned row", file_of(&d), BYTES("\0\0\0\0"), 1, 0, 0);
+    d.limit[CARD][0] = 3, d.limit[CARD][1] = 5;
+    d = day_for(by, d);
+    ranked("limits 3 and 5: all rows", file_of(&d), BYTES("\1\1\1\1"), CLAIMS_CARD, 0, 0, 3);
+    spare("limits 3 and 5: an earned row beside an ordinary one", file_of(&d), BYTES("\1\0\0\0"), 3, 0, 2);
+    spare("limits 3 and 5: an ordinary row beside two earned ones", file_of(&d), BYTES("\0\1\0\1"), 0, 0, 1);
+    part_done("earned rows in a group");
 }
 
 /* A selection may be longer than needed, and what lies past the last row is not read. */
@@ -143,8 +198,8 @@ static unsigned places_by_counting(const struct day *d, unsigned row) {
     for (unsigned side = 0; side < 2; side++) {
         unsigned count[MOST_GROUPS] = {0};
         for (unsigned c = 0; c < d->rows; c++)
-            for (unsigned g = d->group[side][c]; g != TOP; g = d->parent[side][g]) count[g] += selected[c];
-        for (unsigned g = d->group[side][row]; g != TOP; g = d->parent[side][g])
+            for (unsigned g = counts_from(d, side, c); g != TOP; g = d->parent[side][g]) count[g] += selected[c];
+        for (unsigned g = counts_from(d, side, row); g != TOP; g = d->parent[side][g])
             if (d->limit[side][g] - count[g] < least) least = d->limit[side][g] - count[g];
     }
     return least;
@@ -263,13 +318,14 @@ static void grown_selections(const char *name, unsigned days) {
 
 /*
  * One chain of the most groups, all rows at its end, and one group after another the only one with a limit; lowered, all groups behind it
- * have that limit too. The first rows are selected.
+ * have that limit too. The first rows are selected, up to the limit and past it. In the last card group only the ordinary rows count, every
+ * other one, and twice as many rows reach its limit.
  */
 static void deep_chains(void) {
-    static const unsigned counts[] = {0, 299, 300, 301, 302, MOST_ROWS};
+    static const unsigned counts[] = {0, 199, 200, 201, 202, 399, 400, 401, MOST_ROWS};
     for (unsigned g = 0; g < MOST_GROUPS; g += 51) {
         struct day d = chain_day(TOP);
-        for (unsigned side = 0; side < 2; side++) d.limit[side][g] = (uint16_t)(300 + side);
+        for (unsigned side = 0; side < 2; side++) d.limit[side][g] = (uint16_t)(200 + side);
         d = day_for(by, d);
         for (unsigned k = 0; k < sizeof counts / sizeof *counts; k++) {
             for (unsigned c = 0; c < MOST_ROWS; c++) selected[c] = c < counts[k];
@@ -279,12 +335,34 @@ static void deep_chains(void) {
     part_done("deep chains");
 }
 
+/* The limit of the last card group of such a chain holds the ordinary rows alone; that of the one above it holds the earned rows too. */
+static void chain_ends(void) {
+    struct day d = chain_day(TOP);
+    struct bytes selection = {selected, MOST_ROWS};
+    d.limit[CARD][MOST_GROUPS - 1] = 1;
+    memset(selected, 0, sizeof selected);
+    selected[0] = 1;
+    spare("an ordinary row at the end of a chain", file_of(&d), selection, 2, 0, 0);
+    spare("an earned row at the end of a chain", file_of(&d), selection, 1, 0, TOP - 1);
+    for (unsigned c = 0; c < MOST_ROWS; c++) selected[c] = d.kind[c];
+    ranked("all earned rows at the end of a chain", file_of(&d), selection, CLAIMS_CARD, 0, 1, MOST_ROWS / 2);
+    spare("an ordinary row beside all earned ones", file_of(&d), selection, 0, 0, 1);
+    d.limit[CARD][MOST_GROUPS - 2] = 2;
+    ranked("all earned rows, two places above the end", file_of(&d), selection, CLAIMS_CARD, 0, 0, 2);
+    memset(selected, 0, sizeof selected);
+    selected[0] = 1;
+    spare("an earned row, two places above the end", file_of(&d), selection, 1, 0, 1);
+    part_done("ends of chains");
+}
+
 int main(void) {
     for (by = sorts; by < sorts + SORTS; by++) {
         printf("%s\n", by->name);
         start_numbers(20270301);
         refusals();
         worked_days();
+        earned_at_the_top();
+        earned_in_a_group();
         lengths();
         all_selections("all selections of tiny days", 200);
         random_days("random small days", 2000, 8, SMALL_ROWS);
@@ -293,6 +371,7 @@ int main(void) {
         full_days("full days", 100);
         grown_selections("grown selections", 300);
         deep_chains();
+        chain_ends();
     }
     return all_done();
 }

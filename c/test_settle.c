@@ -45,12 +45,24 @@ static int turned_away(struct claims_settle_answer r, unsigned number) {
     return r.refusal == number && r.earned == 0 && r.kept == 0 && r.total == 0 && untouched(0, 0, 0);
 }
 
-/* A day whose choice and numbers were worked by hand. */
-static void worked(const char *name, const struct day *d, const char *choice, unsigned earned, unsigned kept, unsigned total) {
+/*
+ * A day whose choice, numbers and marks were worked by hand. The search finds the same choice. The marks are one good sheet of several:
+ * both these and the ones that settle leaves show the choice.
+ */
+static void worked(const char *name, const struct day *d, const char *choice, unsigned earned, unsigned kept, unsigned total,
+                   const uint32_t *marks) {
+    uint8_t best[SMALL_ROWS];
+    struct day low = lowered(d);
     struct claims_settle_answer r = settle(d, 0);
+    search_all(d, 2, best);
     expect(left_well(d, r) && memcmp(lent.choice, choice, d->rows) == 0, "%s: the choice", name);
+    expect(memcmp(best, choice, d->rows) == 0, "%s: the search finds another choice", name);
     expect(r.earned == earned && r.kept == kept && r.total == total, "%s: the numbers", name);
+    expect(certified(&low, 2, lent.choice, marks), "%s: the marks", name);
 }
+
+/* The marks of the card groups, the shop groups and the rows, in this order. */
+#define MARKS(...) ((const uint32_t[]){__VA_ARGS__})
 
 static struct day day_a(void) {
     struct day a = flat_day(2, 1, 2, 1);
@@ -58,22 +70,74 @@ static struct day day_a(void) {
     return a;
 }
 
+/* Days A to F of document 01, and day A with all rows ordinary, where whoever keeps rows as they come keeps row 0. */
 static void worked_days(void) {
-    struct day a = day_a(), b = flat_day(3, 1, 3, 1), c = flat_day(1, 1, 1, 9), d = flat_day(1, 0, 1, 1), f = a;
+    struct day a = day_a(), b = flat_day(3, 1, 3, 1), c = flat_day(1, 1, 1, 9), d = flat_day(1, 0, 1, 1), f = a, plain = a;
     struct day e = flat_day(0, 0, 0, 0), none = flat_day(3, 2, 2, 2);
-    worked("day A", &a, "\1\0\0", 1, 1, 4);
+    worked("day A", &a, "\1\1\0", 1, 2, 5, MARKS(0, 0, 4, 1, 0, 0, 0));
     b.limit[SHOP][0] = 2, b.limit[SHOP][1] = 5, b.parent[SHOP][1] = 0, b.parent[SHOP][2] = 0;
     add_row(&b, 0, 2, 0), add_row(&b, 1, 2, 1), add_row(&b, 2, 1, 0);
     b = day_for(by, b);
-    worked("day B", &b, "\0\1\1", 1, 2, 5);
+    worked("day B", &b, "\0\1\1", 1, 2, 5, MARKS(0, 0, 0, 1, 0, 3, 0, 0, 0));
     add_row(&c, 0, 0, 1), add_row(&c, 0, 0, 1);
-    worked("day C", &c, "\1\0", 1, 1, 3);
+    worked("day C", &c, "\1\1", 2, 2, 6, MARKS(0, 0, 3, 3));
     add_row(&d, 0, 0, 1);
-    worked("day D", &d, "\0", 0, 0, 0);
-    worked("day E", &e, "", 0, 0, 0);
+    worked("day D", &d, "\1", 1, 1, 2, MARKS(0, 2, 0));
+    worked("day E", &e, "", 0, 0, 0, MARKS(0));
     f.kind[1] = f.kind[2] = 1;
-    worked("day F", &f, "\0\1\1", 2, 2, 8);
-    worked("groups and no claims", &none, "", 0, 0, 0);
+    worked("day F", &f, "\1\1\0", 2, 2, 8, MARKS(0, 0, 4, 4, 0, 0, 0));
+    plain.kind[0] = 0;
+    worked("day A, all rows ordinary", &plain, "\0\1\1", 0, 2, 2, MARKS(1, 0, 1, 0, 0, 0, 0));
+    worked("groups and no claims", &none, "", 0, 0, 0, MARKS(0, 0, 0, 0, 0));
+}
+
+/* Two card groups, of which the second is in the first, with these limits; one shop group of limit 9; and no row yet. */
+static struct day nested(unsigned outer, unsigned inner) {
+    struct day d = flat_day(2, outer, 1, 9);
+    d.parent[CARD][1] = 0, d.limit[CARD][1] = (uint16_t)inner;
+    return d;
+}
+
+/* Where earned rows count: not in the card group that they name, but in all above it. */
+static void earned_rows(void) {
+    struct day shut = nested(0, 0), full = flat_day(1, 1, 1, 9), inner = nested(2, 1), outer = nested(1, 1), deeper = flat_day(3, 1, 2, 1);
+    add_row(&shut, 1, 0, 1), add_row(&shut, 0, 0, 1), add_row(&shut, 0, 0, 0);
+    worked("under a group of limit 0, and in that group itself", &shut, "\0\1\0", 1, 1, 4, MARKS(4, 0, 0, 0, 4, 0));
+    add_row(&full, 0, 0, 0), add_row(&full, 0, 0, 0), add_row(&full, 0, 0, 1), add_row(&full, 0, 0, 1);
+    worked("in a group that an ordinary row fills", &full, "\1\0\1\1", 2, 3, 11, MARKS(1, 0, 0, 0, 5, 5));
+    add_row(&inner, 1, 0, 0), add_row(&inner, 1, 0, 0), add_row(&inner, 1, 0, 1);
+    worked("in an inner group that an ordinary row fills", &inner, "\1\0\1", 1, 2, 5, MARKS(0, 1, 0, 0, 0, 4));
+    add_row(&outer, 1, 0, 0), add_row(&outer, 1, 0, 1), add_row(&outer, 1, 0, 1), add_row(&outer, 0, 0, 1);
+    worked("in an inner group, and the outer one holds one row", &outer, "\0\1\0\1", 2, 2, 10, MARKS(5, 0, 0, 0, 0, 0, 5));
+    /* day A with c0 in a group of limit 1: rows 1 and 2 are more rows than row 0, but row 0 is earned */
+    deeper.parent[CARD][2] = 0;
+    add_row(&deeper, 2, 0, 1), add_row(&deeper, 2, 1, 0), add_row(&deeper, 1, 0, 0);
+    worked("day A one level down", &deeper, "\1\0\0", 1, 1, 4, MARKS(3, 0, 0, 1, 0, 0, 0, 0));
+}
+
+/*
+ * 256 card groups in one chain, with limits for the last two, and 512 rows at its end, every other one earned: so many of the first earned
+ * rows and of the first ordinary ones are kept. The shop groups hold them all.
+ */
+static void chain_keeps(unsigned next_to_last, unsigned last, unsigned earned, unsigned ordinary) {
+    struct day d = chain_day(TOP);
+    uint8_t kept[MOST_ROWS];
+    d.limit[CARD][MOST_GROUPS - 2] = (uint16_t)next_to_last, d.limit[CARD][MOST_GROUPS - 1] = (uint16_t)last;
+    d = day_for(by, d);
+    for (unsigned c = 0; c < d.rows; c++) kept[c] = c / 2 < (d.kind[c] ? earned : ordinary);
+    struct claims_settle_answer r = settle(&d, 0);
+    expect(left_well(&d, r) && memcmp(lent.choice, kept, d.rows) == 0, "a chain with limits %u and %u at its end", next_to_last, last);
+}
+
+/* The earned rows count from the next to last group up, so that the last one's limit holds the ordinary rows alone. */
+static void chains(void) {
+    chain_keeps(TOP, TOP, MOST_ROWS / 2, MOST_ROWS / 2);
+    chain_keeps(TOP, 1, MOST_ROWS / 2, 1);
+    chain_keeps(TOP, 0, MOST_ROWS / 2, 0);
+    chain_keeps(MOST_ROWS / 2 + 2, 3, MOST_ROWS / 2, 2);
+    chain_keeps(100, 3, 100, 0);
+    chain_keeps(MOST_ROWS / 2 + 1, TOP, MOST_ROWS / 2, 1);
+    chain_keeps(0, 0, 0, 0);
 }
 
 /* Buffers exact and one short, each by itself. */
@@ -146,6 +210,8 @@ int main(void) {
     for (by = sorts; by < sorts + SORTS; by++) {
         start_numbers(20270301);
         worked_days();
+        earned_rows();
+        chains();
         short_buffers();
         bounds();
         random_days();

@@ -98,14 +98,20 @@ static struct day day_a(void) {
     return a;
 }
 
-/* Document 02's example, byte for byte. */
-static void worked_day(void) {
-    const char text[] = "CLAIMS    3EARNED    1KEPT     1\n       0       0       0  EARNED\n";
+/* The slip of day A with some rows kept, byte for byte. */
+static void slip_of_a(const char *kept, const char *text) {
     struct day a = day_a();
+    size_t length = strlen(text);
     write_day(&a, &file);
-    memcpy(selection, "\1\0\0", 3);
-    struct claims_write_slip_answer r = write_in(3, sizeof text - 1);
-    expect(r.refusal == 0 && r.length == 66 && memcmp(slip, text, 66) == 0 && untouched(66), "day A");
+    memcpy(selection, kept, 3);
+    struct claims_write_slip_answer r = write_in(3, length);
+    expect(r.refusal == 0 && r.length == length && memcmp(slip, text, length) == 0 && untouched(length), "day A");
+}
+
+/* With row 0 kept; and with rows 0 and 1, as settle keeps them. Row 0 is earned and does not count in card group 0, but names it. */
+static void worked_day(void) {
+    slip_of_a("\1\0\0", "CLAIMS    3EARNED    1KEPT     1\n       0       0       0  EARNED\n");
+    slip_of_a("\1\1\0", "CLAIMS    3EARNED    1KEPT     2\n       0       0       0  EARNED\n       1       0       1   PLAIN\n");
     part_done("worked day");
 }
 

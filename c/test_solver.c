@@ -12,7 +12,8 @@ enum { SMALL_ROWS = 10, HIGHEST = 1000000000 };
 
 /*
  * The tables of a day as the solver has them: the parents of all groups and then their limits; the card nodes of all rows, their shop
- * nodes and then their weights. Card groups come first, then shop groups, then the node over the cards and the node over the shops.
+ * nodes and then their weights. Card groups come first, then shop groups, then the node over the cards and the node over the shops. The
+ * node of a row on a side is the group where it begins to count, or the node over the side where it counts in no group.
  */
 static struct {
     uint32_t groups[4 * MOST_GROUPS + PAST], rows[3 * MOST_ROWS + PAST];
@@ -31,7 +32,7 @@ static void fill_tables(const struct day *d) {
             tables.groups[node_of(d, side, g)] = node_of(d, side, d->parent[side][g]);
             tables.groups[groups_of(d) + node_of(d, side, g)] = d->limit[side][g];
         }
-        for (unsigned c = 0; c < d->rows; c++) tables.rows[side * d->rows + c] = node_of(d, side, d->group[side][c]);
+        for (unsigned c = 0; c < d->rows; c++) tables.rows[side * d->rows + c] = node_of(d, side, counts_from(d, side, c));
     }
     for (unsigned c = 0; c < d->rows; c++) tables.rows[2 * d->rows + c] = (uint32_t)weight_of(d, d->kind[c]);
     fill_lent();
@@ -97,11 +98,12 @@ static void small_days(void) {
         against_search(&four, 4, "a random day of four kinds");
     }
     struct day nothing = flat_day(0, 0, 0, 0), none = flat_day(3, 1, 2, 1), top = nothing;
-    struct day shut = flat_day(2, 0, 2, 0), same = flat_day(1, 4, 1, 4), wide = flat_day(2, TOP, 2, TOP);
+    struct day shut = flat_day(2, 0, 2, 0), same = flat_day(2, 4, 1, 4), wide = flat_day(2, TOP, 2, TOP);
+    hang_chains(&same, CARD, 1);
     for (unsigned c = 0; c < SMALL_ROWS; c++) {
         add_row(&top, TOP, TOP, c % 2);
         add_row(&shut, c % 2, c % 2, c % 2);
-        add_row(&same, 0, 0, 3);
+        add_row(&same, 1, 0, 3);
         add_row(&wide, c % 2, c % 2, c % 2);
     }
     against_search(&nothing, 2, "no groups and no rows");
@@ -120,10 +122,26 @@ static void large_day(const struct day *d, unsigned kinds, const char *what) {
     expect(solve(d, kinds, PAST) == 0 && left_well(d, kinds, PAST), "%s", what);
 }
 
+/*
+ * Each row counts in one card group, of limit 2, and in one shop group, of limit 1. The card groups stand in pairs, one in the other: an
+ * ordinary row names the outer one, and an earned row the inner one, so that it counts in the outer one too.
+ */
 static void flat_matching(unsigned kinds) {
+    enum { PAIRS = MOST_GROUPS / 2 };
+    struct day d = flat_day(MOST_GROUPS, 2, MOST_GROUPS, 1);
+    hang_chains(&d, CARD, PAIRS);
+    while (d.rows < MOST_ROWS) {
+        unsigned kind = below(kinds), outer = below(PAIRS);
+        add_row(&d, kind > 0 ? PAIRS + outer : outer, below(MOST_GROUPS), kind);
+    }
+    large_day(&d, kinds, "a flat matching");
+}
+
+/* Every group is at the top with limit 1, so that the ordinary rows are held by both sides and the earned ones by their shops alone. */
+static void free_cards(unsigned kinds) {
     struct day d = flat_day(MOST_GROUPS, 1, MOST_GROUPS, 1);
     draw_rows(&d, MOST_ROWS, kinds);
-    large_day(&d, kinds, "a flat matching");
+    large_day(&d, kinds, "earned rows in no card group");
 }
 
 /* Each side is one chain, with the limits loosest at its top. */
@@ -162,6 +180,7 @@ static void alternating_paths(unsigned kinds) {
 static void large_days(void) {
     for (unsigned kinds = 2; kinds <= 4; kinds += 2) {
         flat_matching(kinds);
+        free_cards(kinds);
         deep_chains(kinds);
         random_forests(kinds);
         alternating_paths(kinds);

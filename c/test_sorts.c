@@ -174,6 +174,30 @@ static void day_b(void) {
     part_done("day B");
 }
 
+/*
+ * Three card groups, each in the one before, with limits 1, 5 and 5; two earned rows and an ordinary one name the last. The earned rows
+ * count from the second group up, whose limit is lowered to 1, so that one of them is kept. A mark of 4 there shows it by the lowered
+ * limit; by the limit as it stands it comes to too much.
+ */
+static void earned_lowered(void) {
+    static const uint32_t marks[] = {0, 4, 0, 0, 0, 0, 0};
+    static struct file f;
+    static struct told t;
+    struct day d = flat_day(3, 5, 1, 9);
+    hang_chains(&d, CARD, 1);
+    d.limit[CARD][0] = 1;
+    add_row(&d, 2, 0, 1), add_row(&d, 2, 0, 1), add_row(&d, 2, 0, 0);
+    write_day(&d, &f);
+    struct day low = lowered(&d);
+    ask(&sorts[STORED], &f, &longest, 0, &t);
+    expect(t.settled.refusal == 0 && t.settled.earned == 1 && t.settled.kept == 1 && t.settled.total == 4, "earned, stored: the numbers");
+    expect(memcmp(t.lent.choice, "\1\0\0", 3) == 0, "earned, stored: the choice");
+    expect(certified(&low, 2, t.lent.choice, t.lent.sheet) && certified(&low, 2, t.lent.choice, marks), "earned, stored: the marks");
+    expect(!certified(&d, 2, t.lent.choice, marks), "earned, stored: the marks by the limits as they stand");
+    lowered_alike(&d);
+    part_done("earned rows under lowered limits");
+}
+
 /* ---- Faults ---- */
 
 /*
@@ -297,6 +321,7 @@ int main(void) {
     limits_above();
     for (unsigned s = 0; s < SORTS; s++) broken_files(&sorts[s], 2000);
     day_b();
+    earned_lowered();
     random_days("random small days", 1000, 8, 12);
     random_days("random days", 200, 40, 120);
     random_days("random large days", 20, MOST_GROUPS, MOST_ROWS);

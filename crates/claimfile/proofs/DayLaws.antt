@@ -5,6 +5,7 @@
 --   parent-on written-on       a group of a side, by its record
 --   side-room root-past        the nodes of a side lie within the network, and its root past it
 --   each-node                  a fact of every group of each side is one of every node
+--   card-ordinary card-earned  where a claim hangs on the card side: at the group that it names, or above it
 --   card-node shop-node        where a row hangs, by its record
 --   day-down sound-formed      the parents are a forest, and the network of a sound file is formed
 --   limit-top limit-below      the limit of a group of a side: the written one, or its parent's where that is less
@@ -16,24 +17,25 @@ use mathlib.Core.Path.{_≡_, refl, sym, _∙_}
 use mathlib.Core.Logic.{_⊎_, inl, inr, _≢_}
 use mathlib.Core.List.{List}
 use Prim.Native.Nat.{ℕ, zero, suc, _+_, _*_, _-_, min, _<_, _≤_}
-use native.Mathlib.Decide.{decLt}
+use native.Mathlib.Decide.{ℕ-discrete, decLt}
 use native.Mathlib.Nat.{zero-add, le-refl}
 use native.Mathlib.Omega.{arith}
 use lib.ListN.{length, getD}
-use borrow.Author.Tests.{lt-ltb, le-ltb}
+use borrow.Author.Tests.{lt-ltb, le-ltb, eq-eqb, ne-eqb}
 use Rattle.theory.specs.Bounds.{maxGroups}
 use Rattle.theory.specs.Forest.{Down}
-use Rattle.theory.specs.Formed.{Formed}
+use Rattle.theory.specs.Formed.{CardNode, Formed}
 use Rattle.theory.specs.Lowered.{lesser}
 use Rattle.theory.specs.Spare.{sparePlaces}
 use Rattle.theory.proofs.ListsLaws.{SameLists}
 use Rattle.theory.proofs.LoweredLaws.{lowered-top, lowered-below, lowered-only, lowered-le, lowered-same, lowered-lists}
 use Rattle.theory.proofs.LoweredLaws.{spare-lowered}
 use Rattle.claimfile.specs.File.{groupWidth, word}
-use Rattle.claimfile.specs.Day.{startOf, countOf, groupOf, claimOf, groupsOf, firstOf, rootOf, above, upOf}
-use Rattle.claimfile.specs.Day.{parentOf, writtenOf, limitOf, cardNode, shopNode, networkOf, instanceOf, writtenDay}
+use Rattle.claimfile.specs.Day.{startOf, countOf, groupOf, claimOf, namedCard, kindOf, groupsOf, firstOf, rootOf, above, upOf}
+use Rattle.claimfile.specs.Day.{parentOf, writtenOf, limitOf, cardBy, cardNode, shopNode, networkOf, instanceOf, writtenDay}
 use Rattle.claimfile.specs.Sound.{Sound, NoneAbove}
 use Rattle.claimfile.specs.declared.Layout.{Layout}
+use Rattle.claimfile.specs.declared.Claim.{Claim}
 
 pub start-shop : (l : Layout) (side : ℕ) → side ≢ 0 → startOf l side ≡ l .«shop_at»
 start-shop l zero n = absurd (n refl)
@@ -81,6 +83,13 @@ above-is own parent first root =
           inr (rw (le-ltb _ _ large))
     ]
 
+module _ (parent : ℕ → ℕ) (claim : Claim) where
+  pub card-ordinary : claim .kind ≡ 0 → cardBy parent claim ≡ claim .card
+  card-ordinary e = rw (eq-eqb _ _ e)
+
+  pub card-earned : claim .kind ≢ 0 → cardBy parent claim ≡ parent (claim .card)
+  card-earned n = rw (ne-eqb _ _ n)
+
 word-small : (s : List ℕ) → ((i : ℕ) → getD s i 0 < 256) → (at : ℕ) → word s at < 65536
 word-small s bytes at = omega (arith, bytes at, bytes (at + 1))
 
@@ -101,7 +110,7 @@ module _ (s : List ℕ) (l : Layout) where
       let back : l .cards + g - l .cards ≡ g = omega arith in
       rw (le-ltb _ _ past, back)
 
-  pub card-node : (c : ℕ) → cardNode s l c ≡ claimOf s l c .card
+  pub card-node : (c : ℕ) → cardNode s l c ≡ cardBy (parentOf s l) (claimOf s l c)
   unfolding cardNode
   card-node c = refl
 
@@ -140,6 +149,19 @@ module _ (s : List ℕ) (l : Layout) where
         | inr q ↦ inr (omega (arith, q, root-past l side))
       ])
 
+  -- a row hangs at a card group or at the root: where it is earned, its node is above a group
+  card-side : Sound s l → (c : ℕ) → c < l .rows → CardNode (networkOf s l) (cardNode s l c)
+  card-side sound c h =
+      elim (ℕ-discrete (kindOf s l c) 0) [
+        | yes e ↦ inl (omega (arith, card-node c, card-ordinary (parentOf s l) (claimOf s l c) e, sound .row-cards c h))
+        | no n ↦
+            let lifted = card-node c ∙ card-earned (parentOf s l) (claimOf s l c) n in
+            elim (rw zero-add at (node-above 0 (namedCard s l c) (sound .row-cards c h))) [
+              | inl q ↦ inl (omega (arith, lifted, q .1, sound .row-cards c h))
+              | inr q ↦ inr (lifted ∙ q)
+            ]
+      ]
+
   pub sound-formed : Sound s l → Formed (networkOf s l)
   sound-formed sound =
       record {
@@ -152,7 +174,7 @@ module _ (s : List ℕ) (l : Layout) where
         shop-parent = λ v h k.
             let back : l .cards + (v - l .cards) ≡ v = omega arith in
             rw back at (node-above 1 (v - l .cards) (omega arith));
-        card-node = λ c h. inl (omega (arith, card-node c, sound .row-cards c h));
+        card-node = card-side sound;
         shop-node = λ c h. inl (omega (arith, shop-node c), omega (arith, shop-node c, sound .row-shops c h));
       }
 

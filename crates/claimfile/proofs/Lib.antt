@@ -2,6 +2,7 @@
 pub mod FileLaws
 pub mod AcceptedLaws
 pub mod DayLaws
+pub mod CountingLaws
 pub mod PutLaws
 pub mod WrittenLaws
 pub mod StoredLaws

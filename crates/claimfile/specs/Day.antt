@@ -12,6 +12,8 @@
 --   upOf s l side g        the node above group g of a side
 --   parentOf, writtenOf    a group's parent and the limit in its record, by its node
 --   limitOf                what its limit is: the written one, lowered from the front
+--   cardBy parent claim    where a claim hangs on the card side, by the node above each group: at the group that it names, or, where the
+--                          claim is earned, above that group
 --   cardNode, shopNode     where a row hangs on each side
 --   networkOf, instanceOf  all of these together
 --   writtenDay             the same day with the limits as they are written
@@ -19,7 +21,7 @@
 use Prim.Native.Nat.{ℕ, zero, suc, _+_, _-_}
 use mathlib.Core.List.{List}
 use lib.ListN.{drop}
-use lib.Dec.{ltb}
+use lib.Dec.{ltb, eqb}
 use Rattle.theory.specs.Sum.{pick}
 use Rattle.theory.specs.Network.{Network, Instance}
 use Rattle.theory.specs.Lowered.{lowered}
@@ -87,9 +89,12 @@ writtenOf s l v = pick (ltb v (l .cards)) (groupOf s l 0 v .limit) (groupOf s l 
 unfoldable pub limitOf : List ℕ → Layout → ℕ → ℕ
 limitOf s l v = lowered (groupsOf l) (parentOf s l) (writtenOf s l) v
 
--- where a row hangs on the card side: the group that it names
+-- Document 02, E5: "An earned claim no longer counts in the card group that it names; it counts from that group's parent upward."
+abbrev pub cardBy : (ℕ → ℕ) → Claim → ℕ
+cardBy parent claim = pick (eqb (claim .kind) 0) (claim .card) (parent (claim .card))
+
 unfoldable pub cardNode : List ℕ → Layout → ℕ → ℕ
-cardNode s l c = namedCard s l c
+cardNode s l c = cardBy (parentOf s l) (claimOf s l c)
 
 unfoldable pub shopNode : List ℕ → Layout → ℕ → ℕ
 shopNode s l c = l .cards + namedShop s l c

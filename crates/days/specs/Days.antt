@@ -1,13 +1,15 @@
--- The days of document 01 that are worked by hand and marked P, A to H, as document 02 has changed them (E4), as one table.
+-- The days of document 01 that are worked by hand and marked P, A to H, worked again as document 02 has changed them (E4, E5), as one
+-- table. Behind them stands day A with all rows ordinary, which document 02, E5, adds.
 --   Closing                what settle answers, and the choice that it leaves
 --   Question               a question of the call fits-and-rank, with its answer
 --   Day                    a claim file and what document 01 says of it
 --   days                   the table
---   dayOf k                day k of it: A is 0, B is 1, and so on
+--   dayOf k                day k of it: A is 0, B is 1, and so on; A with all rows ordinary is 6
 -- Bytes are hexadecimal, other figures decimal, as in document 01. A file has one line for the card groups, one for the shop
 -- groups, one for the claim count and one for each claim. "Cards c0, c1 and shop groups s0, s1 are at the top with limit 1 unless
--- said", so they stand in the file also where no row names them. Marks not named are 0. The counts, the total of day C and the
--- half of an answer that days G and H leave out follow from document 01's words.
+-- said", so they stand in the file also where no row names them. Marks not named are 0. An earned claim counts from the parent of the
+-- card group that it names upward (E5), so here, where card groups are at the top, in no card group. What document 02 does not say of a day
+-- worked again follows from its words.
 use mathlib.Core.Bool.{Bool, true, false}
 use mathlib.Core.List.{List, [], _∷_}
 use Prim.Native.Nat.{ℕ}
@@ -42,7 +44,7 @@ pub record Day : Type 0 where
 
 abbrev pub days : List Day
 days =
-    -- A: c0/s0 e, c0/s1 o, c1/s0 o. Kept: row 0 only, though rows 1 and 2 would be more. Marks c0 3, s0 1, total 4.
+    -- A: c0/s0 e, c0/s1 o, c1/s0 o. "On day A rows 0 and 1 are now kept, with marks s0 4 and s1 1", total 5.
     record {
       form = newFile;
       file =
@@ -52,15 +54,18 @@ days =
           0x00 ∷ 0x00 ∷ 0x00 ∷ 0x00 ∷ 0x01 ∷
           0x00 ∷ 0x00 ∷ 0x01 ∷ 0x00 ∷ 0x00 ∷
           0x01 ∷ 0x00 ∷ 0x00 ∷ 0x00 ∷ 0x00 ∷ [];
-      settle = record { choice = 1 ∷ 0 ∷ 0 ∷ []; earned = 1; kept = 1; total = 4 };
-      sheet = 3 ∷ 0 ∷ 1 ∷ 0 ∷ 0 ∷ 0 ∷ 0 ∷ [];
+      settle = record { choice = 1 ∷ 1 ∷ 0 ∷ []; earned = 1; kept = 2; total = 5 };
+      sheet = 0 ∷ 0 ∷ 4 ∷ 1 ∷ 0 ∷ 0 ∷ 0 ∷ [];
       questions =
-          -- G: day A, card side: rank of rows 0 and 1 is 1, of all three 2, of none 0.
-          -- H: day A, rows 0 and 1 do not fit card (the first question), and fit shop (the last).
-          record { side = 0; selection = 1 ∷ 1 ∷ 0 ∷ []; fits = false; rank = 1 } ∷
-          record { side = 0; selection = 1 ∷ 1 ∷ 1 ∷ []; fits = false; rank = 2 } ∷
+          -- G: day A, card side: rank of rows 0 and 1 is 2, of all three 3, of none 0.
+          record { side = 0; selection = 1 ∷ 1 ∷ 0 ∷ []; fits = true; rank = 2 } ∷
+          record { side = 0; selection = 1 ∷ 1 ∷ 1 ∷ []; fits = true; rank = 3 } ∷
           record { side = 0; selection = 0 ∷ 0 ∷ 0 ∷ []; fits = true; rank = 0 } ∷
+          -- H: day A, rows 0 and 1 fit card (the first question of G) and shop. Rows 0 and 2, which fit card and not shop, take their
+          -- part, and so do rows 0 and 1 of day A with all rows ordinary, below, which do not fit card.
           record { side = 1; selection = 1 ∷ 1 ∷ 0 ∷ []; fits = true; rank = 2 } ∷
+          record { side = 0; selection = 1 ∷ 0 ∷ 1 ∷ []; fits = true; rank = 2 } ∷
+          record { side = 1; selection = 1 ∷ 0 ∷ 1 ∷ []; fits = false; rank = 1 } ∷
           [];
     } ∷
     -- B: cards c0, c1, c2; shop s0 limit 2 over s1 limit 5 and s2 limit 1; rows c0/s2 o, c1/s2 e, c2/s1 o. Kept 1 and 2.
@@ -78,7 +83,7 @@ days =
       sheet = 0 ∷ 0 ∷ 0 ∷ 1 ∷ 0 ∷ 3 ∷ 0 ∷ 0 ∷ 0 ∷ [];
       questions = [];
     } ∷
-    -- C: c0/s0 e twice, s0 limit 9. Kept 0. Mark c0 3.
+    -- C: c0/s0 e twice, s0 limit 9. Kept 0 and 1. Both claims marked 3, total 6.
     record {
       form = newFile;
       file =
@@ -87,11 +92,11 @@ days =
           0x02 ∷ 0x00 ∷
           0x00 ∷ 0x00 ∷ 0x00 ∷ 0x00 ∷ 0x01 ∷
           0x00 ∷ 0x00 ∷ 0x00 ∷ 0x00 ∷ 0x01 ∷ [];
-      settle = record { choice = 1 ∷ 0 ∷ []; earned = 1; kept = 1; total = 3 };
-      sheet = 3 ∷ 0 ∷ 0 ∷ 0 ∷ 0 ∷ 0 ∷ [];
+      settle = record { choice = 1 ∷ 1 ∷ []; earned = 2; kept = 2; total = 6 };
+      sheet = 0 ∷ 0 ∷ 0 ∷ 0 ∷ 3 ∷ 3 ∷ [];
       questions = [];
     } ∷
-    -- D: one row c0/s0 e, c0 limit 0. Kept none; mark c0 2, total 0.
+    -- D: one row c0/s0 e, c0 limit 0. Kept 0. Mark s0 2, total 2.
     record {
       form = newFile;
       file =
@@ -99,8 +104,8 @@ days =
           0x02 ∷ 0x00 ∷ 0xFF ∷ 0xFF ∷ 0x01 ∷ 0x00 ∷ 0xFF ∷ 0xFF ∷ 0x01 ∷ 0x00 ∷
           0x01 ∷ 0x00 ∷
           0x00 ∷ 0x00 ∷ 0x00 ∷ 0x00 ∷ 0x01 ∷ [];
-      settle = record { choice = 0 ∷ []; earned = 0; kept = 0; total = 0 };
-      sheet = 2 ∷ 0 ∷ 0 ∷ 0 ∷ 0 ∷ [];
+      settle = record { choice = 1 ∷ []; earned = 1; kept = 1; total = 2 };
+      sheet = 0 ∷ 0 ∷ 2 ∷ 0 ∷ 0 ∷ [];
       questions = [];
     } ∷
     -- E: `00 00 00 00 00 00`. Nothing kept, total 0.
@@ -111,7 +116,7 @@ days =
       sheet = [];
       questions = [];
     } ∷
-    -- F: day A with all rows earned. Kept 1 and 2. Marks c0 4, s0 4, total 8.
+    -- F: day A with all rows earned. Kept 0 and 1. Marks s0 4, s1 4, total 8.
     record {
       form = newFile;
       file =
@@ -121,9 +126,25 @@ days =
           0x00 ∷ 0x00 ∷ 0x00 ∷ 0x00 ∷ 0x01 ∷
           0x00 ∷ 0x00 ∷ 0x01 ∷ 0x00 ∷ 0x01 ∷
           0x01 ∷ 0x00 ∷ 0x00 ∷ 0x00 ∷ 0x01 ∷ [];
-      settle = record { choice = 0 ∷ 1 ∷ 1 ∷ []; earned = 2; kept = 2; total = 8 };
-      sheet = 4 ∷ 0 ∷ 4 ∷ 0 ∷ 0 ∷ 0 ∷ 0 ∷ [];
+      settle = record { choice = 1 ∷ 1 ∷ 0 ∷ []; earned = 2; kept = 2; total = 8 };
+      sheet = 0 ∷ 0 ∷ 4 ∷ 4 ∷ 0 ∷ 0 ∷ 0 ∷ [];
       questions = [];
+    } ∷
+    -- "Day A with all rows ordinary (kept 1 and 2, marks c0 1, s0 1, total 2) takes day F's part against first come."
+    record {
+      form = newFile;
+      file =
+          0x02 ∷ 0x00 ∷ 0xFF ∷ 0xFF ∷ 0x01 ∷ 0x00 ∷ 0xFF ∷ 0xFF ∷ 0x01 ∷ 0x00 ∷
+          0x02 ∷ 0x00 ∷ 0xFF ∷ 0xFF ∷ 0x01 ∷ 0x00 ∷ 0xFF ∷ 0xFF ∷ 0x01 ∷ 0x00 ∷
+          0x03 ∷ 0x00 ∷
+          0x00 ∷ 0x00 ∷ 0x00 ∷ 0x00 ∷ 0x00 ∷
+          0x00 ∷ 0x00 ∷ 0x01 ∷ 0x00 ∷ 0x00 ∷
+          0x01 ∷ 0x00 ∷ 0x00 ∷ 0x00 ∷ 0x00 ∷ [];
+      settle = record { choice = 0 ∷ 1 ∷ 1 ∷ []; earned = 0; kept = 2; total = 2 };
+      sheet = 1 ∷ 0 ∷ 1 ∷ 0 ∷ 0 ∷ 0 ∷ 0 ∷ [];
+      questions =
+          record { side = 0; selection = 1 ∷ 1 ∷ 0 ∷ []; fits = false; rank = 1 } ∷
+          [];
     } ∷
     []
 

@@ -49,7 +49,7 @@ use Rattle.limits.specs.Ready.{Ready}
 use Rattle.limits.specs.Side.{limitIn, hangs, countsIn, FitsIn, Placed}
 use Rattle.limits.specs.Chain.{Chained}
 use Rattle.limits.proofs.ChainLaws.{up-own}
-use Rattle.limits.proofs.SideLaws.{side-node, group-node, node-group, both-on, both-load}
+use Rattle.limits.proofs.SideLaws.{group-node, node-group, both-on, both-load}
 use Rattle.limits.proofs.EntryLaws.{entering}
 
 module _ (s sel : List ℕ) (l : Layout) (x : ℕ) where
@@ -256,7 +256,7 @@ module _ (s sel : List ℕ) (l : Layout) (ready : Ready s sel l) (x : ℕ) (insi
   told-spares : ((i : ℕ) → getD s i 0 < 256) → SparesOn (instanceOf s l) sel x number
   told-spares bytes =
       let h = hangs s l 1 x in
-      let own = side-node s l (ready .sound) 1 x inside in
+      let own = ready .sound .row-shops x inside in
       let within : l .cards + h < groupsOf l = omega arith in
       spares net formed (limitOf s l) (row sel) x inside (l .cards + h) within
       (both-on s l (ready .sound) x inside 1 h own ∙ up-own s l 1 h own)

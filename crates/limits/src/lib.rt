@@ -1,9 +1,10 @@
 // Which lists of rows fit the limits of a side, what their ranks are, and how many claims more would fit.
 //
 // A selection is one byte a row, 1 where the row is in it; bytes past the last row are not read.
-// Each selected row is counted at the group that it names. Then the rows rise, from the last group to the first: a group passes on to
-// its parent as many as came to it, but no more than its limit. Since each parent has a smaller number, all that comes to a group has
-// come when its turn is. What comes to the top is the rank, and the selection fits where each group passed on all that came to it.
+// Each selected row is counted at the group that it names; an earned row, on the card side, above that group. Then the rows rise, from
+// the last group to the first: a group passes on to its parent as many as came to it, but no more than its limit. Since each parent has
+// a smaller number, all that comes to a group has come when its turn is. What comes to the top is the rank, and the selection fits where
+// each group passed on all that came to it.
 // A stored file's limits are read as they are written: what fits these fits the lowered ones, with the same rank and spare places.
 // The cost is rows + groups; the memory is one count for each group of one side, and one for the top.
 // For the spare places of a row, a walk through the parents, from the group where the row hangs, lists the groups that it counts in. It
@@ -71,19 +72,24 @@ fn bit(x: u8) -> u16
     x as u16
 }
 
-// The group where row `c` hangs on a side.
+// Where row `c` hangs on a side: at the group that it names, or, where it is earned, on the card side above that group. The number of
+// the side's groups stands for the top.
 fn hangs_at(file: &[u8], layout: Layout, side: usize, c: usize) -> usize
     requires { ⌜ (Sound (now file) layout) × (c < layout .rows) ⌝ }
-    ensures { λ r. ⌜ (r ≡ hangs (now (file .entry)) layout side c) × (r < maxGroups) ⌝ }
+    ensures { λ r. ⌜ (r ≡ hangs (now (file .entry)) layout side c) × (r ≤ maxGroups) ⌝ }
 {
     let claim = claim_of(file, layout, c);
-    if side == 0 {
+    if side != 0 {
+        return claim.shop;
+    }
+    if claim.kind == 0 {
         return claim.card;
     }
-    claim.shop
+    let group = group_of(file, layout, 0, claim.card);
+    above(group.parent, claim.card, layout.cards)
 }
 
-// Counts each selected row at the group that it names.
+// Counts each selected row where it hangs.
 fn count_rows(file: &[u8], layout: Layout, side: usize, selection: &[u8], counts: &mut [u16])
     requires { ⌜ Ready (now file) (now selection) layout ⌝ }
     requires { ⌜ Zero (now counts) ⌝ }
@@ -203,8 +209,13 @@ fn chain_of(file: &[u8], layout: Layout, side: usize, row: usize, list: &mut [u1
     requires { ⌜ (Sound (now file) layout) × (row < layout .rows) × (maxGroups < length (now list)) ⌝ }
     ensures { λ r. ⌜ Chained (now (file .entry)) layout side row (now (list .exit)) r ⌝ }
 {
+    let g = hangs_at(file, layout, side, row);
+    if groups_on(layout, side) <= g {
+        // it hangs at the top, and counts in no group
+        return 0;
+    }
     let ups = ups_of(file, layout, side);
-    climb(&ups, hangs_at(file, layout, side, row), 0, list)
+    climb(&ups, g, 0, list)
 }
 
 // The lesser of `spare` and the places that a group with this limit has left beside its count.

@@ -39,13 +39,14 @@ fn spare_a(name: &[u8], selection: &[u8], row: usize) {
     spare(name, &DAY_A, selection, row);
 }
 
-// Days G and H of document 01.
+// Days G and H of document 01. Row 0 is earned and counts in no card group.
 fn days_g_and_h() {
     day_a(b"day G, rows 0 and 1", b"\x01\x01\x00", CARD);
     day_a(b"day G, all three rows", b"\x01\x01\x01", CARD);
     day_a(b"day G, no row", b"\x00\x00\x00", CARD);
-    day_a(b"day H, rows 0 and 1, card", b"\x01\x01\x00", CARD);
-    day_a(b"day H, rows 0 and 1, shop", b"\x01\x01\x00", SHOP);
+    day_a(b"day H, rows 0 and 2, card", b"\x01\x00\x01", CARD);
+    day_a(b"day H, rows 0 and 2, shop", b"\x01\x00\x01", SHOP);
+    day_a(b"day A, rows 0 and 1, shop", b"\x01\x01\x00", SHOP);
     day_a(b"day A, all three rows, shop", b"\x01\x01\x01", SHOP);
     day_a(b"day A, rows 1 and 2, card", b"\x00\x01\x01", CARD);
     day_a(b"day A, rows 1 and 2, shop", b"\x00\x01\x01", SHOP);
@@ -85,16 +86,69 @@ fn values() {
     spare_a(b"too short, row past the last", b"\x02\x00", 3);
     spare_a(b"row in the selection", b"\x00\x01\x00", 1);
     spare_a(b"row in the selection, byte over 1", b"\x02\x01\x00", 1);
-    spare_a(b"row in a selection that does not fit", b"\x01\x01\x00", 1);
+    spare_a(b"row in a selection that does not fit", b"\x01\x00\x01", 2);
 }
 
 fn spare_on_day_a() {
     spare_a(b"row 0 beside none", b"\x00\x00\x00", 0);
     spare_a(b"row 2 beside row 1", b"\x00\x01\x00", 2);
-    spare_a(b"row 0 beside row 1, card", b"\x00\x01\x00", 0);
+    spare_a(b"row 0 beside row 1", b"\x00\x01\x00", 0);
+    spare_a(b"row 1 beside row 0", b"\x01\x00\x00", 1);
     spare_a(b"row 0 beside row 2, shop", b"\x00\x00\x01", 0);
     spare_a(b"row 2 beside rows 0 and 1", b"\x01\x01\x00", 2);
     spare_a(b"row 1 beside rows 0 and 2", b"\x01\x00\x01", 1);
+}
+
+// One card group, at the top, with limit 0; the shop group has limit 65535. Row 0 is earned, row 1 is ordinary.
+const FREE: [u8; 24] =
+    *b"\x01\x00\xff\xff\x00\x00\x01\x00\xff\xff\xff\xff\x02\x00\x00\x00\x00\x00\x01\x00\x00\x00\x00\x00";
+
+fn spare_free(name: &[u8], selection: &[u8], row: usize) {
+    spare(name, &FREE, selection, row);
+}
+
+// The earned row counts in no card group, and its shop group alone bounds its places.
+fn earned_at_the_top() {
+    ranked(b"limit 0, earned row", &FREE, b"\x01\x00", CARD);
+    ranked(b"limit 0, both rows", &FREE, b"\x01\x01", CARD);
+    spare_free(b"limit 0, earned row beside none", b"\x00\x00", 0);
+    spare_free(b"limit 0, ordinary row beside none", b"\x00\x00", 1);
+    spare_free(b"limit 0, earned row beside ordinary", b"\x00\x01", 0);
+    spare_free(b"limit 0, ordinary row beside earned", b"\x01\x00", 1);
+}
+
+// Card group 0 with limit 2, and in it group 1 with limit 1; the shop group has limit 9. Rows 0 and 1 name card group 1, rows 2 and 3
+// name group 0. Rows 1 and 3 are earned: row 1 counts in card group 0, and row 3 in none.
+const INNER: [u8; 38] =
+    *b"\x02\x00\xff\xff\x02\x00\x00\x00\x01\x00\x01\x00\xff\xff\x09\x00\x04\x00\x01\x00\x00\x00\x00\x01\x00\x00\x00\x01\x00\x00\x00\x00\x00\x00\x00\x00\x00\x01";
+
+fn spare_inner(name: &[u8], selection: &[u8], row: usize) {
+    spare(name, &INNER, selection, row);
+}
+
+fn earned_in_a_group() {
+    ranked(b"inner, rows 0 and 1", &INNER, b"\x01\x01\x00\x00", CARD);
+    ranked(b"inner, rows 0 to 2", &INNER, b"\x01\x01\x01\x00", CARD);
+    ranked(b"inner, all rows", &INNER, b"\x01\x01\x01\x01", CARD);
+    spare_inner(b"inner, row 1 beside row 0", b"\x01\x00\x00\x00", 1);
+    spare_inner(b"inner, row 0 beside row 1", b"\x00\x01\x00\x00", 0);
+    spare_inner(b"inner, row 1 beside rows 0 and 2", b"\x01\x00\x01\x00", 1);
+    spare_inner(b"inner, row 2 beside rows 0 and 1", b"\x01\x01\x00\x00", 2);
+    spare_inner(b"inner, row 3 beside rows 0 and 1", b"\x01\x01\x00\x00", 3);
+}
+
+// Three card groups, each in the one before, with limits 1, 5 and 5, which a stored file may have; the shop group has limit 9. Three earned
+// rows name the last: they count in the second, whose limit is lowered to 1.
+const LOWERED: [u8; 37] =
+    *b"\x03\x00\xff\xff\x01\x00\x00\x00\x05\x00\x01\x00\x05\x00\x01\x00\xff\xff\x09\x00\x03\x00\x02\x00\x00\x00\x01\x02\x00\x00\x00\x01\x02\x00\x00\x00\x01";
+
+fn earned_lowered() {
+    text(b"limits 1, 5 and 5, all rows");
+    ranked_both(&LOWERED, b"\x01\x01\x01", CARD);
+    text(b"limits 1, 5 and 5, row 0 beside none");
+    spare_both(&LOWERED, b"\x00\x00\x00", 0);
+    text(b"limits 1, 5 and 5, row 0 beside row 1");
+    spare_both(&LOWERED, b"\x00\x01\x00", 0);
 }
 
 // A fault of the file is told before the selection, the side and the row are judged.
@@ -133,8 +187,8 @@ fn day_b_new() {
     faulty(b"day B, new", &DAY_B);
 }
 
-// Shop group 0 has limit 2 and stands over group 1 with limit 5, which is lowered to 2, and group 2 with limit 1; each row has a card
-// group of limit 1.
+// Shop group 0 has limit 2 and stands over group 1 with limit 5, which is lowered to 2, and group 2 with limit 1; each row names a card
+// group of limit 1, in which row 1, an earned one, does not count.
 fn spare_on_day_b() {
     spare_b(b"day B, row 2 beside none", b"\x00\x00\x00", 2);
     spare_b(b"day B, row 2 beside row 1", b"\x00\x01\x00", 2);
@@ -225,6 +279,9 @@ fn main() {
     lengths();
     values();
     spare_on_day_a();
+    earned_at_the_top();
+    earned_in_a_group();
+    earned_lowered();
     faulty_files();
     day_e();
     day_b_new();

@@ -3,13 +3,13 @@
 --   AsStated d n ch a      the choice and the counts of a day with n rows are those that the table states
 --   as-stated              they are, wherever a day of the table is closed
 --   On day A:
---   kept-a                 row 0 is kept, and no other: keeping nothing is shut out
+--   kept-a                 rows 0 and 1 are kept, and row 2 is not: keeping nothing is shut out
 --   not-untouched          a choice that did not hold row 0 is changed: leaving the choice buffer untouched is shut out
---   counts-a               one row is earned and one is kept: counts that the choice does not hold are shut out
---   total-a                the total is 4
+--   counts-a               one kept row is earned and two are kept: counts that the choice does not hold are shut out
+--   total-a                the total is 5
 --   sheet-behind           the marks are not all 0: a total without a sheet behind it is shut out
 --   past-the-rows          a byte past the rows is as it was
---   On day F:
+--   On day A with all rows ordinary:
 --   given-up               row 0 is not kept, and rows 1 and 2 are: keeping rows by first come is shut out
 use mathlib.Core.Path.{_≡_, sym, ap, _∙_}
 use mathlib.Core.List.{List, []}
@@ -102,17 +102,17 @@ module _
     unfolding groupFault claimFault recordsFrom countFault sectionAt claimsAt reading
     rows-a = ap rowsIn is
 
-    pub kept-a : (row ch′ 0 ≡ 1) × (row ch′ 1 ≡ 0) × (row ch′ 2 ≡ 0)
+    pub kept-a : (row ch′ 0 ≡ 1) × (row ch′ 1 ≡ 1) × (row ch′ 2 ≡ 0)
     kept-a =
         (stated-a .choice 0 (omega (arith, rows-a)), stated-a .choice 1 (omega (arith, rows-a)), stated-a .choice 2 (omega (arith, rows-a)))
 
     pub not-untouched : (row ch 0 ≡ 1 → ⊥) → ch′ ≡ ch → ⊥
     not-untouched out same = out (ap (λ x. row x 0) (sym same) ∙ kept-a .0)
 
-    pub counts-a : (a .earned ≡ 1) × (a .kept ≡ 1)
+    pub counts-a : (a .earned ≡ 1) × (a .kept ≡ 2)
     counts-a = (stated-a .earned, stated-a .kept)
 
-    pub total-a : a .total ≡ 4
+    pub total-a : a .total ≡ 5
     total-a =
         let sound = accepted-sound newFile (dayOf 0 .file) l is in
         let i = instanceOf (dayOf 0 .file) l in
@@ -132,19 +132,19 @@ module _
     past-the-rows k h = C .choice-rest .same k (omega (arith, rows-a))
 
 --------------------------------------------------------------------------------
--- Day F
+-- Day A with all rows ordinary
 
 module _
-    (l : Layout) (is : reading newFile (dayOf 5 .file) ≡ Accepted l) (ch sheet t ch′ sheet′ t′ : List ℕ) (a : Totals)
-    (C : Closes (instanceOf (dayOf 5 .file) l) ch sheet t ch′ sheet′ t′ a)
+    (l : Layout) (is : reading newFile (dayOf 6 .file) ≡ Accepted l) (ch sheet t ch′ sheet′ t′ : List ℕ) (a : Totals)
+    (C : Closes (instanceOf (dayOf 6 .file) l) ch sheet t ch′ sheet′ t′ a)
   where
-    stated-f : AsStated (dayOf 5) (l .rows) ch′ a
-    stated-f = as-stated (dayOf 5) (ap (λ x. getD x 5 (refused CutOff)) days-hold) l is ch sheet t ch′ sheet′ t′ a C
+    stated-o : AsStated (dayOf 6) (l .rows) ch′ a
+    stated-o = as-stated (dayOf 6) (ap (λ x. getD x 6 (refused CutOff)) days-hold) l is ch sheet t ch′ sheet′ t′ a C
 
-    rows-f : 3 ≡ l .rows
+    rows-o : 3 ≡ l .rows
     unfolding groupFault claimFault recordsFrom countFault sectionAt claimsAt reading
-    rows-f = ap rowsIn is
+    rows-o = ap rowsIn is
 
     pub given-up : (row ch′ 0 ≡ 0) × (row ch′ 1 ≡ 1) × (row ch′ 2 ≡ 1)
     given-up =
-        (stated-f .choice 0 (omega (arith, rows-f)), stated-f .choice 1 (omega (arith, rows-f)), stated-f .choice 2 (omega (arith, rows-f)))
+        (stated-o .choice 0 (omega (arith, rows-o)), stated-o .choice 1 (omega (arith, rows-o)), stated-o .choice 2 (omega (arith, rows-o)))

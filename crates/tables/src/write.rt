@@ -5,6 +5,7 @@ ghost use Rattle.theory.specs.Bounds.{maxGroups, maxRows, cellBound};
 ghost use Rattle.theory.specs.Lowered.{lesser};
 ghost use Rattle.theory.specs.Priority as priority;
 ghost use Rattle.claimfile.specs.Day as day;
+ghost use Rattle.claimfile.specs.Sound.{Sound};
 ghost use Rattle.residual.specs.Map.{spareOf, Room};
 ghost use Rattle.tables.specs.Tables.{shapeOf, Given, Wrote, Hosts, PutGroup, PutGroups, PutRow, PutRows};
 use claimfile::Claim;
@@ -113,11 +114,16 @@ fn write_groups(
     }
 }
 
-// Where a claim hangs on the card side: the group that it names.
-fn card_node(claim: Claim) -> usize
-    ensures { λ r. ⌜ r ≡ claim .card ⌝ }
+// Where a claim hangs on the card side: at the group that it names, or, where it is earned, above that group.
+fn card_node(file: &[u8], layout: Layout, claim: Claim) -> usize
+    requires { ⌜ (Sound (now file) layout) × (claim .card < layout .cards) ⌝ }
+    ensures { λ r. ⌜ (r ≡ day.cardBy (day.parentOf (now (file .entry)) layout) claim) × (r < cellBound) ⌝ }
 {
-    claim.card
+    if claim.kind == 0 {
+        return claim.card;
+    }
+    let group = group_of(file, layout, CARD_SIDE, claim.card);
+    above(claim.card, group.parent, 0, layout.cards + layout.shops)
 }
 
 // Where a claim hangs on the shop side.
@@ -145,7 +151,7 @@ fn write_row(file: &[u8], layout: Layout, sh: Shape, c: usize, scratch: &mut [u3
     ensures { λ _. ⌜ PutRow (now (file .entry)) layout sh (now (scratch .entry)) (now (scratch .exit)) c ⌝ }
 {
     let claim = claim_of(file, layout, c);
-    set_card(sh, c, card_node(claim), scratch);
+    set_card(sh, c, card_node(file, layout, claim), scratch);
     set_shop(sh, c, shop_node(layout, claim), scratch);
     set_weight(sh, c, weight_of(layout, claim), scratch);
 }

@@ -1,6 +1,7 @@
 -- Laws of where rows stand while they rise through a forest.
 --   rooted-down                the parents make a forest
 --   land-out land-low land-high    where a row stands: at the root, at its own node, or where its parent's rows stand
+--   land-stays                 at its own node while no node is done
 --   land-where                 below g, or at the root
 --   land-next                  one node more is done: the rows that stood there stand at its parent, the others where they stood
 --   chain-land                 a row counts in a node exactly where it stands there when the nodes after it are done
@@ -43,6 +44,14 @@ module _ (G : ℕ) (parent : ℕ → ℕ) (rooted : Rooted G parent) where
 
   pub land-high : (g u : ℕ) → u < G → g ≤ u → land G parent g u ≡ land G parent g (parent u)
   land-high g u h l = land-in g u h ∙ rw (le-ltb _ _ l)
+
+  -- nothing is done yet
+  pub land-stays : (u : ℕ) → u ≤ G → land G parent G u ≡ u
+  land-stays u h =
+      elim (decLt u G) [
+        | yes l ↦ land-low G u l l
+        | no l ↦ land-out G u (omega arith) ∙ omega arith
+      ]
 
   pub land-where : (g u : ℕ) → Waits G g (land G parent g u)
   land-where g =
@@ -152,12 +161,11 @@ own-small N a X bits v =
     )
 
 module _ (N G : ℕ) (parent a : ℕ → ℕ) (rooted : Rooted G parent) where
-  -- nothing is done yet, and each row stands at its own node
+  -- nothing is done yet, and each row stands where it hangs, at a node or at the root
   pub stand-start :
-      ((c : ℕ) → c < N → a c < G) → (X : ℕ → ℕ) (v : ℕ) → stand N G parent a G X v ≡ own N a X v
+      ((c : ℕ) → c < N → a c ≤ G) → (X : ℕ → ℕ) (v : ℕ) → stand N G parent a G X v ≡ own N a X v
   unfolding stand own
-  stand-start nodes X v =
-      sum-cong N (λ c l. ap (λ x. X c * same x v) (land-low G parent rooted G (a c) (nodes c l) (nodes c l)))
+  stand-start nodes X v = sum-cong N (λ c l. ap (λ x. X c * same x v) (land-stays G parent rooted (a c) (nodes c l)))
 
   -- all nodes are done, and each row stands at the root
   pub stand-end : (X : ℕ → ℕ) → stand N G parent a 0 X G ≡ size N X
