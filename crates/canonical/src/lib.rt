@@ -1,6 +1,6 @@
 // The canonical file: one form for all files that differ only in group numbering and in groups with no claim in or beneath them.
 //
-// `write_canonical` takes any bytes and any buffer. The groups of each side are numbered anew (`number`). Then the counts are
+// `write_canonical` takes any bytes, in a form, and any buffer. The groups of each side are numbered anew (`number`). Then the counts are
 // put, the record of each group at the place of its new number, and the claims in the new numbers. A parent's record is put before
 // its child's, so a limit is lowered to the one that stands there; in a new file it is nowhere above that one. The memory beside
 // the lent buffer is one number for each group.
@@ -10,7 +10,6 @@ ghost use mathlib.Core.Path.{_≡_};
 ghost use Prim.Native.Nat.{_+_, _<_, _≤_};
 ghost use lib.ListN.{length};
 ghost use Rattle.theory.specs.Bounds.{maxGroups};
-ghost use Rattle.claimfile.specs.File.{newFile, storedFile};
 ghost use Rattle.claimfile.specs.Day.{countOf};
 ghost use Rattle.claimfile.specs.Sound.{Sound};
 ghost use Rattle.claimfile.specs.Put.{Room};
@@ -213,7 +212,7 @@ fn canonical_on(file: &[u8], layout: Layout, out: &mut [u8]) -> usize
 
 // Writes the canonical file of a file in a form, and answers its length. The buffer is as long as the file read, or longer; its
 // bytes past the written length keep their values.
-fn write_canonical_as(file: &[u8], form: Form, out: &mut [u8]) -> Written
+pub fn write_canonical(file: &[u8], form: Form, out: &mut [u8]) -> Written
     ensures { λ r. ⌜ Writes form (now (file .entry)) (now (out .entry)) (now (out .exit)) r ⌝ }
 {
     let reading = read(file, form);
@@ -226,19 +225,4 @@ fn write_canonical_as(file: &[u8], form: Form, out: &mut [u8]) -> Written
             Written::Bytes(canonical_on(file, layout, out))
         }
     }
-}
-
-// Writes the canonical file of a file, and answers its length. The buffer is as long as the file read, or longer; its bytes past
-// the written length keep their values.
-pub fn write_canonical(file: &[u8], out: &mut [u8]) -> Written
-    ensures { λ r. ⌜ Writes newFile (now (file .entry)) (now (out .entry)) (now (out .exit)) r ⌝ }
-{
-    write_canonical_as(file, Form { stored: false }, out)
-}
-
-// The same for a stored file, which is written as lowered.
-pub fn write_canonical_stored(file: &[u8], out: &mut [u8]) -> Written
-    ensures { λ r. ⌜ Writes storedFile (now (file .entry)) (now (out .entry)) (now (out .exit)) r ⌝ }
-{
-    write_canonical_as(file, Form { stored: true }, out)
 }

@@ -2,7 +2,8 @@
 --   one-layout not-both        a reading is accepted with one layout, and is not refused too
 --   records-fine all-whole     what a run of records without a fault says of each, and of the room that they take
 --   group-fine claim-fine      the fields of a group and of a claim without a fault
---   taken                      a section that was read
+--   taken section-read section-fine    a section that was read
+--   sectionIn accepted-sections    the group sections of an accepted file are those of its layout
 --   accepted-sound             an accepted file is sound
 --   accepted-stored            it is accepted as a stored file too
 --   new-below                  in a new file no group's limit is above its parent's
@@ -22,7 +23,8 @@ use Rattle.theory.specs.Bounds.{maxGroups, maxRows}
 use Rattle.claimfile.specs.File.{newFile, storedFile, top, groupWidth, claimWidth, word, groupAt, claimAt}
 use Rattle.claimfile.specs.File.{groupFault, claimFault, recordsFrom}
 use Rattle.claimfile.specs.File.{groupsFrom, rowsFrom, countFault, sectionOf, sectionBy, sectionAt, claimsAt, reading}
-use Rattle.claimfile.specs.Day.{countOf, groupOf}
+use Rattle.claimfile.specs.Sections.{behind, sectionOn}
+use Rattle.claimfile.specs.Day.{startOf, countOf, groupOf}
 use Rattle.claimfile.specs.Sound.{SmallerOrTop, Sound, NoneAbove}
 use Rattle.claimfile.specs.declared.Form.{Form}
 use Rattle.claimfile.specs.declared.Refusal.{Refusal}
@@ -56,9 +58,9 @@ not-both x l why p q =
 -- Records without a fault
 
 -- record k lies within the bytes, and its fields have no fault
-record FineRecord (size start width : ℕ) (fault : ℕ → Checked) (k : ℕ) : Type 0 where
-  whole : start + width * k + width ≤ size
-  fine : fault k ≡ Fine
+pub record FineRecord (size start width : ℕ) (fault : ℕ → Checked) (k : ℕ) : Type 0 where
+  pub whole : start + width * k + width ≤ size
+  pub fine : fault k ≡ Fine
 
 module _ (size start width : ℕ) (fault : ℕ → Checked) (count : ℕ) where
   abbrev from : ℕ → Checked
@@ -94,7 +96,7 @@ all-whole size start width zero first each = simp mul-zero (omega arith)
 all-whole size start width (suc n) first each = rw mul-suc (omega (arith, each n (omega arith)))
 
 -- the fields of a group without a fault
-record FineGroup (f : Form) (group : ℕ → Group) (own : ℕ) : Type 0 where
+pub record FineGroup (f : Form) (group : ℕ → Group) (own : ℕ) : Type 0 where
   parent : SmallerOrTop own (group own .parent)
   limit : f .stored ≡ false → group own .parent < own → group own .limit ≤ group (group own .parent) .limit
 
@@ -167,12 +169,13 @@ never-read x why count start next p q =
     absurd (omega arith)
 
 -- its count stands at a place, its records have a width, and Each holds of each of them
-record Taken (s : List ℕ) (at most width : ℕ) (Each : ℕ → ℕ → Type 0) (count start next : ℕ) : Type 0 where
-  place : start ≡ at + 2
-  after : next ≡ at + 2 + width * count
-  within : next ≤ length s
-  small : count ≤ most
-  each : (k : ℕ) → k < count → Each start k
+pub record Taken (s : List ℕ) (at most width : ℕ) (Each : ℕ → ℕ → Type 0) (count start next : ℕ) : Type 0 where
+  pub counted : count ≡ word s at
+  pub place : start ≡ at + 2
+  pub after : next ≡ at + 2 + width * count
+  pub within : next ≤ length s
+  pub small : count ≤ most
+  pub each : (k : ℕ) → k < count → Each start k
 
 module _ (s : List ℕ) (at most : ℕ) (over : Refusal) (width : ℕ) (checked : Checked) (count start next : ℕ) where
   -- where records without a fault lie within the file and Each holds of them
@@ -191,6 +194,7 @@ module _ (s : List ℕ) (at most : ℕ) (over : Refusal) (width : ℕ) (checked 
           let place : start ≡ at + 2 = cc in
           let after : next ≡ at + 2 + width * word s at = cc in
           record {
+            counted = counted;
             place = place;
             after = after ∙ ap (λ (n : ℕ). at + 2 + width * n) (sym counted);
             within =
@@ -218,14 +222,14 @@ module _ (s : List ℕ) (at most : ℕ) (over : Refusal) (width : ℕ) (checked 
       judged (Fault why) f = never-read _ why count start next e (section-fault s at most over width checked why f)
       judged Fine f = told checked refl (sym e ∙ section-fits s at most over width checked f)
 
-abbrev GroupFits : Form → List ℕ → ℕ → ℕ → Type 0
+abbrev pub GroupFits : Form → List ℕ → ℕ → ℕ → Type 0
 GroupFits f s start = FineGroup f (groupAt s start)
 
 abbrev RowFits : List ℕ → ℕ → ℕ → ℕ → ℕ → Type 0
 RowFits s cards shops start c = FineClaim (claimAt (drop start s) c) cards shops
 
 module _ (s : List ℕ) (at count start next : ℕ) where
-  section-read :
+  pub section-read :
       (f : Form) → sectionAt f s at ≡ Read count start next →
       Taken s at maxGroups groupWidth (GroupFits f s) count start next
   unfolding sectionAt
@@ -235,6 +239,15 @@ module _ (s : List ℕ) (at count start next : ℕ) where
       let r = records-fine (length s) (at + 2) groupWidth (groupFault f (groupAt s (at + 2))) (word s at) fine g l in
       (r .whole, group-fine f (groupAt s (at + 2)) g (r .fine)))
 
+  -- none of its records has a fault
+  pub section-fine :
+      (f : Form) → sectionAt f s at ≡ Read count start next → (g : ℕ) → g < word s at →
+      FineRecord (length s) (at + 2) groupWidth (groupFault f (groupAt s (at + 2))) g
+  unfolding sectionAt
+  section-fine f e =
+      records-fine (length s) (at + 2) groupWidth (groupFault f (groupAt s (at + 2))) (word s at)
+      (read-fine s at maxGroups GroupCount groupWidth (groupsFrom f s (at + 2) 0 (word s at)) count start next e)
+
   -- it is read as a section of a stored file too
   section-stored :
       (f : Form) → sectionAt f s at ≡ Read count start next → sectionAt storedFile s at ≡ Read count start next
@@ -242,8 +255,7 @@ module _ (s : List ℕ) (at count start next : ℕ) where
   section-stored f e =
       let group = groupAt s (at + 2) in
       let fine = read-fine s at maxGroups GroupCount groupWidth (groupsFrom f s (at + 2) 0 (word s at)) count start next e in
-      let each : (g : ℕ) → g < word s at → FineRecord (length s) (at + 2) groupWidth (groupFault f group) g =
-      records-fine (length s) (at + 2) groupWidth (groupFault f group) (word s at) fine in
+      let each = section-fine f e in
       let stored : groupsFrom storedFile s (at + 2) 0 (word s at) ≡ Fine =
       records-pass (length s) (at + 2) groupWidth (groupFault storedFile group) (word s at) (λ g l. each g l .whole)
       (λ g l. fine-stored f group g (group-fine f group g (each g l .fine))) (word s at) 0 (omega arith) in
@@ -266,8 +278,13 @@ module _ (s : List ℕ) (at count start next : ℕ) where
 --------------------------------------------------------------------------------
 -- The file
 
+-- the section of a side, by the layout
+abbrev pub sectionIn : Layout → ℕ → Section
+sectionIn l side = Read (countOf l side) (startOf l side) (startOf l side + groupWidth * countOf l side)
+
 -- what holds of a file that is accepted in a form
 record Accords (f : Form) (s : List ℕ) (l : Layout) : Type 0 where
+  sections : (side : ℕ) → side < 2 → sectionOn f s side ≡ sectionIn l side
   sound : Sound s l
   stored : reading storedFile s ≡ Accepted l
   below : f .stored ≡ false → NoneAbove s l
@@ -275,23 +292,34 @@ record Accords (f : Form) (s : List ℕ) (l : Layout) : Type 0 where
 -- three sections that were read, one behind the other, up to the end of the file
 module _ (f : Form) (s : List ℕ) (l : Layout) (next after end : ℕ) where
   accords :
-      Taken s 0 maxGroups groupWidth (GroupFits f s) (l .cards) (l .«card_at») next →
-      Taken s next maxGroups groupWidth (GroupFits f s) (l .shops) (l .«shop_at») after →
+      sectionAt f s 0 ≡ Read (l .cards) (l .«card_at») next → sectionAt f s next ≡ Read (l .shops) (l .«shop_at») after →
       Taken s after maxRows claimWidth (RowFits s (l .cards) (l .shops)) (l .rows) (l .«row_at») end →
       length s ≤ end → reading storedFile s ≡ Accepted l → Accords f s l
-  accords cards shops rows h stored =
-      record { sound = sound; stored = stored; below = λ new side g m. groups side g m .limit new }
+  accords cards-are shops-are rows h stored =
+      record { sections = sections; sound = sound; stored = stored; below = λ new side g m. groups side g m .limit new }
     where
+      cards : Taken s 0 maxGroups groupWidth (GroupFits f s) (l .cards) (l .«card_at») next
+      cards = section-read s 0 (l .cards) (l .«card_at») next f cards-are
+
+      shops : Taken s next maxGroups groupWidth (GroupFits f s) (l .shops) (l .«shop_at») after
+      shops = section-read s next (l .shops) (l .«shop_at») after f shops-are
+
+      sections : (side : ℕ) → side < 2 → sectionOn f s side ≡ sectionIn l side
+      sections zero few = cards-are ∙ ap (Read (l .cards) (l .«card_at»)) (omega (arith, cards))
+      sections (suc zero) few =
+          ap (λ x. sectionAt f s (behind x)) cards-are ∙ shops-are ∙ ap (Read (l .shops) (l .«shop_at»)) (omega (arith, shops))
+      sections (suc (suc n)) few = absurd (omega arith)
+
       groups : (side g : ℕ) → g < countOf l side → FineGroup f (groupOf s l side) g
       groups zero = cards .each
       groups (suc n) = shops .each
 
       sound : Sound s l
       sound = record {
-        card-place = omega arith;
-        shop-place = omega arith;
-        row-place = omega arith;
-        size = omega arith;
+        card-place = omega (arith, cards);
+        shop-place = omega (arith, cards, shops);
+        row-place = omega (arith, cards, shops);
+        size = omega (arith, cards, shops);
         cards-most = cards .small;
         shops-most = shops .small;
         rows-most = rows .small;
@@ -319,8 +347,7 @@ module _ (f : Form) (s : List ℕ) (l : Layout) (is : reading f s ≡ Accepted l
             subst (Accords f s)
             (one-layout _ _ _
             (accepted f s cards cardAt next cards-are shops shopAt after shops-are rows rowAt end e whole) is)
-            (accords f s _ next after end (section-read s 0 cards cardAt next f cards-are)
-            (section-read s next shops shopAt after f shops-are) (claims-read s after rows rowAt end cards shops e) whole
+            (accords f s _ next after end cards-are shops-are (claims-read s after rows rowAt end cards shops e) whole
             (accepted storedFile s cards cardAt next (section-stored s 0 cards cardAt next f cards-are) shops shopAt after
             (section-stored s next shops shopAt after f shops-are) rows rowAt end e whole))
       ]
@@ -336,6 +363,9 @@ module _ (f : Form) (s : List ℕ) (l : Layout) (is : reading f s ≡ Accepted l
   through-cards : (x : Section) → sectionAt f s 0 ≡ x → Accords f s l
   through-cards (Faulty why) e = refused why (cards-fault f s why e)
   through-cards (Read cards cardAt next) e = through-shops cards cardAt next e (sectionAt f s next) refl
+
+  pub accepted-sections : (side : ℕ) → side < 2 → sectionOn f s side ≡ sectionIn l side
+  accepted-sections = through-cards (sectionAt f s 0) refl .sections
 
   pub accepted-sound : Sound s l
   accepted-sound = through-cards (sectionAt f s 0) refl .sound

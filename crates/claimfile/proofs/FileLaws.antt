@@ -1,13 +1,13 @@
 -- Laws of the claim file: how the first fault of what is left follows from the next record, one law a case.
 --   tail-is                                      the list behind `&s[a..]`
 --   never                                        a check does not find both no fault and one
---   group-bad group-top group-stored group-above group-new group-below    the fault of a group
+--   group-bad group-top group-stored group-above group-new group-far group-near group-below   the fault of a group
 --   no-record record-cut record-fault next-record    the records that are left
 --   records-pass                                 records that lie within the bytes and have no fault
 --   count-cut count-large count-fits count-fine  the fault of a count
 --   section-fault section-fits                   a section by the fault of its count
 --   cards-fault shops-fault claims-fault trailing accepted   the file
-use mathlib.Core.Path.{_≡_, refl, sym, ap}
+use mathlib.Core.Path.{_≡_, refl, sym, ap, _∙_}
 use mathlib.Core.Bool.{true, false}
 use mathlib.Core.Logic.{inl, inr}
 use mathlib.Core.List.{List}
@@ -20,6 +20,8 @@ use lib.Seq.{take-all}
 use borrow.Author.Tests.{lt-ltb, le-ltb, eq-eqb, ne-eqb}
 use Rattle.claimfile.specs.File.{top, word, groupFault, recordsFrom}
 use Rattle.claimfile.specs.File.{countFault, sectionOf, sectionBy, sectionAt, claimsAt, reading}
+use Rattle.theory.specs.Bounds.{maxLimit}
+use Rattle.theory.specs.Sum.{pick}
 use Rattle.theory.proofs.TestLaws.{either}
 use Rattle.claimfile.specs.declared.Form.{Form}
 use Rattle.claimfile.specs.declared.Group.{Group}
@@ -64,6 +66,24 @@ module _ (f : Form) (group : ℕ → Group) (own : ℕ) where
         f .stored ≡ false → group own .limit ≤ group (group own .parent) .limit → groupFault f group own ≡ Fine
     unfolding groupFault
     group-new e less = rw (lt-ltb _ _ h, e, le-ltb _ _ less)
+
+    -- x is how far a limit may be above its parent's: a stored one has 16 bits, and is not farther above it
+    module _ (x : ℕ) (is : x ≡ pick (f .stored) maxLimit 0) where
+      pub group-far :
+          group own .limit ≤ maxLimit → group (group own .parent) .limit + x < group own .limit →
+          groupFault f group own ≡ Fault LimitAbove
+      group-far small more =
+          elim (either (f .stored)) [
+            | inl e ↦ absurd (omega (arith, is ∙ ap (λ b. pick b maxLimit 0) e))
+            | inr e ↦ group-above e (omega (arith, is ∙ ap (λ b. pick b maxLimit 0) e))
+          ]
+
+      pub group-near : group own .limit ≤ group (group own .parent) .limit + x → groupFault f group own ≡ Fine
+      group-near less =
+          elim (either (f .stored)) [
+            | inl e ↦ group-stored e
+            | inr e ↦ group-new e (omega (arith, is ∙ ap (λ b. pick b maxLimit 0) e))
+          ]
 
     pub group-below : group own .limit ≤ group (group own .parent) .limit → groupFault f group own ≡ Fine
     group-below less =

@@ -1,6 +1,8 @@
 -- The laws of the claim file.
 pub mod FileLaws
 pub mod AcceptedLaws
+pub mod SectionLaws
+pub mod ReadLaws
 pub mod DayLaws
 pub mod CountingLaws
 pub mod PutLaws

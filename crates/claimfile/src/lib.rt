@@ -8,7 +8,8 @@ pub mod write;
 ghost use mathlib.Core.Path.{_≡_};
 ghost use Prim.Native.Nat.{_+_, _*_, _<_, _≤_};
 ghost use lib.ListN.{length};
-ghost use Rattle.theory.specs.Bounds.{maxGroups, maxRows};
+ghost use Rattle.theory.specs.Bounds.{maxGroups, maxRows, maxLimit};
+ghost use Rattle.theory.specs.Sum.{pick};
 ghost use Rattle.claimfile.specs.File.{groupWidth, claimWidth, word, groupAt, claimAt, groupFault, claimFault};
 ghost use Rattle.claimfile.specs.File.{groupsFrom, rowsFrom, countFault, sectionOf, sectionAt, claimsAt, refusedBy, reading};
 ghost use Rattle.claimfile.specs.Day.{startOf, countOf, groupOf, claimOf};
@@ -124,7 +125,17 @@ fn claim_at(rows: &[u8], c: usize) -> Claim
     }
 }
 
-// The first fault of the fields of the group record with number `own`: its parent, and then, in a new file, its limit.
+// How far a limit may be above its parent's: not at all in a new file, and in a stored one as far as 16 bits go.
+fn most_above(form: Form) -> usize
+    ensures { λ r. ⌜ (r ≡ pick (form .stored) maxLimit 0) × (r ≤ maxLimit) ⌝ }
+{
+    if form.stored {
+        return MAX_LIMIT;
+    }
+    0
+}
+
+// The first fault of the fields of the group record with number `own`: its parent, and then its limit.
 fn check_group(file: &[u8], form: Form, start: usize, own: usize) -> Checked
     requires { ⌜ start + groupWidth * own + groupWidth ≤ length (now file) ⌝ }
     ensures { λ r. ⌜ r ≡ groupFault form (groupAt (now (file .entry)) start) own ⌝ }
@@ -136,11 +147,8 @@ fn check_group(file: &[u8], form: Form, start: usize, own: usize) -> Checked
         }
         return Checked::Fine;
     }
-    if form.stored {
-        return Checked::Fine;
-    }
     let parent = group_at(file, start, group.parent);
-    if parent.limit < group.limit {
+    if parent.limit + most_above(form) < group.limit {
         return Checked::Fault(Refusal::LimitAbove);
     }
     Checked::Fine
@@ -282,29 +290,24 @@ fn refused_by(section: Section) -> Reading
     }
 }
 
-// Reads a file from the front: accepted with its layout, or refused by the first fault met.
+// Reads a file from the front: accepted with its layout, or refused by the first fault met. The group sections of both sides are read by
+// one body, the card section first and the shop section behind it.
 pub fn read(file: &[u8], form: Form) -> Reading
     ensures { λ r. ⌜ r ≡ reading form (now (file .entry)) ⌝ }
 {
-    let card_section = read_groups(file, form, 0);
-    let Section::Read {
-        count: cards,
-        start: card_at,
-        next: after_cards,
-    } = card_section
-    else {
-        return refused_by(card_section);
-    };
-    let shop_section = read_groups(file, form, after_cards);
-    let Section::Read {
-        count: shops,
-        start: shop_at,
-        next: after_shops,
-    } = shop_section
-    else {
-        return refused_by(shop_section);
-    };
-    let claims = read_claims(file, after_shops, cards, shops);
+    let mut counts = [0usize; 2];
+    let mut starts = [0usize; 2];
+    let mut at = 0usize;
+    for side in 0..2usize {
+        let section = read_groups(file, form, at);
+        let Section::Read { count, start, next } = section else {
+            return refused_by(section);
+        };
+        counts[side] = count;
+        starts[side] = start;
+        at = next;
+    }
+    let claims = read_claims(file, at, counts[0], counts[1]);
     let Section::Read {
         count: rows,
         start: row_at,
@@ -317,11 +320,11 @@ pub fn read(file: &[u8], form: Form) -> Reading
         return Reading::Refused(Refusal::Trailing);
     }
     Reading::Accepted(Layout {
-        cards,
-        shops,
+        cards: counts[0],
+        shops: counts[1],
         rows,
-        card_at,
-        shop_at,
+        card_at: starts[0],
+        shop_at: starts[1],
         row_at,
     })
 }

@@ -1,11 +1,9 @@
 // Settling a claim file: the best choice, and the sheet of marks that shows that no choice is better.
 //
-// `settle` takes any bytes and any buffers, and `settle_stored` the same for a stored file. `settle_on` does the same for a file that
-// is accepted with a known layout.
+// `settle` takes any bytes, in a form, and any buffers. `settle_on` does the same for a file that is accepted with a known layout.
 ghost use mathlib.Core.Path.{_≡_};
 ghost use Prim.Native.Nat.{_+_, _*_, _≤_, _<_};
 ghost use Rattle.theory.specs.Bounds.{maxGroups, maxRows};
-ghost use Rattle.claimfile.specs.File.{newFile, storedFile};
 ghost use Rattle.claimfile.specs.Day.{groupsOf, instanceOf};
 ghost use Rattle.claimfile.specs.Sound.{Sound};
 ghost use Rattle.closing.specs.Settle.{SettlesOn, Settles};
@@ -147,8 +145,9 @@ pub fn settle_on(
     ))
 }
 
-// Settles a file in a form.
-fn settle_as(
+// Settles a file in a form: keeps the best choice, leaves the marks in the sheet, and clears the scratch. The lent buffers are a choice of
+// N bytes, a sheet of groups + N numbers and scratch of 8 × (groups + N) numbers, where N is the number of claims.
+pub fn settle(
     file: &[u8],
     form: Form,
     choice: &mut [u8],
@@ -162,24 +161,4 @@ fn settle_as(
         Reading::Refused(why) => Settled::Refused(Reason::File(why)),
         Reading::Accepted(layout) => settle_on(file, layout, choice, sheet, scratch),
     }
-}
-
-// Settles a file: keeps the best choice, leaves the marks in the sheet, and clears the scratch. The lent buffers are a choice of N
-// bytes, a sheet of groups + N numbers and scratch of 8 × (groups + N) numbers, where N is the number of claims.
-pub fn settle(file: &[u8], choice: &mut [u8], sheet: &mut [u32], scratch: &mut [u32]) -> Settled
-    ensures { λ r. ⌜ Settles newFile (now (file .entry)) (now (choice .entry)) (now (sheet .entry)) (now (scratch .entry)) (now (choice .exit)) (now (sheet .exit)) (now (scratch .exit)) r ⌝ }
-{
-    settle_as(file, Form { stored: false }, choice, sheet, scratch)
-}
-
-// The same for a stored file.
-pub fn settle_stored(
-    file: &[u8],
-    choice: &mut [u8],
-    sheet: &mut [u32],
-    scratch: &mut [u32],
-) -> Settled
-    ensures { λ r. ⌜ Settles storedFile (now (file .entry)) (now (choice .entry)) (now (sheet .entry)) (now (scratch .entry)) (now (choice .exit)) (now (sheet .exit)) (now (scratch .exit)) r ⌝ }
-{
-    settle_as(file, Form { stored: true }, choice, sheet, scratch)
 }

@@ -14,7 +14,6 @@ ghost use mathlib.Core.Path.{_≡_};
 ghost use Prim.Native.Nat.{_+_, _-_, min, _<_, _≤_};
 ghost use lib.ListN.{length};
 ghost use Rattle.theory.specs.Bounds.{maxGroups};
-ghost use Rattle.claimfile.specs.File.{newFile, storedFile};
 ghost use Rattle.claimfile.specs.Day.{instanceOf};
 ghost use Rattle.claimfile.specs.Sound.{Sound};
 ghost use Rattle.claimfile.specs.declared.Reading.the-variants.{Accepted};
@@ -301,7 +300,7 @@ fn enter(file: &[u8], form: Form, selection: &[u8]) -> Entry
 }
 
 // Whether a selection fits a side (0 card, 1 shop), and its rank there, for a file in a form.
-fn fits_and_rank_as(file: &[u8], form: Form, selection: &[u8], side: usize) -> Ranked
+pub fn fits_and_rank(file: &[u8], form: Form, selection: &[u8], side: usize) -> Ranked
     ensures { λ r. ⌜ Answered form (now (file .entry)) (now (selection .entry)) side r ⌝ }
 {
     let entry = enter(file, form, selection);
@@ -320,22 +319,8 @@ fn fits_and_rank_as(file: &[u8], form: Form, selection: &[u8], side: usize) -> R
     }
 }
 
-// Whether a selection fits a side (0 card, 1 shop), and its rank there.
-pub fn fits_and_rank(file: &[u8], selection: &[u8], side: usize) -> Ranked
-    ensures { λ r. ⌜ Answered newFile (now (file .entry)) (now (selection .entry)) side r ⌝ }
-{
-    fits_and_rank_as(file, Form { stored: false }, selection, side)
-}
-
-// The same for a stored file.
-pub fn fits_and_rank_stored(file: &[u8], selection: &[u8], side: usize) -> Ranked
-    ensures { λ r. ⌜ Answered storedFile (now (file .entry)) (now (selection .entry)) side r ⌝ }
-{
-    fits_and_rank_as(file, Form { stored: true }, selection, side)
-}
-
 // How many further claims like the row would fit beside a selection that does not hold it, for a file in a form.
-fn spare_places_as(file: &[u8], form: Form, selection: &[u8], row: usize) -> Spare
+pub fn spare_places(file: &[u8], form: Form, selection: &[u8], row: usize) -> Spare
     ensures { λ r. ⌜ Spared form (now (file .entry)) (now (selection .entry)) row r ⌝ }
 {
     let entry = enter(file, form, selection);
@@ -351,18 +336,4 @@ fn spare_places_as(file: &[u8], form: Form, selection: &[u8], row: usize) -> Spa
             Spare::Places(spare_on(file, layout, row, selection))
         }
     }
-}
-
-// How many further claims like the row would fit beside a selection that does not hold it.
-pub fn spare_places(file: &[u8], selection: &[u8], row: usize) -> Spare
-    ensures { λ r. ⌜ Spared newFile (now (file .entry)) (now (selection .entry)) row r ⌝ }
-{
-    spare_places_as(file, Form { stored: false }, selection, row)
-}
-
-// The same for a stored file.
-pub fn spare_places_stored(file: &[u8], selection: &[u8], row: usize) -> Spare
-    ensures { λ r. ⌜ Spared storedFile (now (file .entry)) (now (selection .entry)) row r ⌝ }
-{
-    spare_places_as(file, Form { stored: true }, selection, row)
 }

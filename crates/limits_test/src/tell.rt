@@ -2,12 +2,11 @@
 use casebook::line::number;
 use casebook::line::refused;
 use casebook::line::text;
+use claimfile::Form;
 use limits::Ranked;
 use limits::Spare;
 use limits::fits_and_rank;
-use limits::fits_and_rank_stored;
 use limits::spare_places;
-use limits::spare_places_stored;
 
 fn told(fits: bool, rank: usize) {
     if fits {
@@ -29,13 +28,13 @@ fn ranked_answer(answer: Ranked) {
 // The name and the answer of fits and rank.
 pub fn ranked(name: &[u8], file: &[u8], selection: &[u8], side: usize) {
     text(name);
-    ranked_answer(fits_and_rank(file, selection, side));
+    ranked_answer(fits_and_rank(file, Form { stored: false }, selection, side));
 }
 
 // The same for a stored file.
 pub fn ranked_stored(name: &[u8], file: &[u8], selection: &[u8], side: usize) {
     text(name);
-    ranked_answer(fits_and_rank_stored(file, selection, side));
+    ranked_answer(fits_and_rank(file, Form { stored: true }, selection, side));
 }
 
 // Both answers, for a name that is written already.
@@ -60,13 +59,13 @@ fn spare_answer(answer: Spare) {
 // The name and the answer of spare places.
 pub fn spare(name: &[u8], file: &[u8], selection: &[u8], row: usize) {
     text(name);
-    spare_answer(spare_places(file, selection, row));
+    spare_answer(spare_places(file, Form { stored: false }, selection, row));
 }
 
 // The same for a stored file.
 pub fn spare_stored(name: &[u8], file: &[u8], selection: &[u8], row: usize) {
     text(name);
-    spare_answer(spare_places_stored(file, selection, row));
+    spare_answer(spare_places(file, Form { stored: true }, selection, row));
 }
 
 // Both answers, for a name that is written already.

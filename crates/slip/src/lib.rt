@@ -1,7 +1,7 @@
 // The slip for the counter's roll of 32 columns: which rows are kept, in a text that a lent buffer takes.
 //
-// `write_slip` and `write_slip_stored` take any bytes and any buffer. `slip_on` does the same for a file that is accepted with a known
-// layout. The whole slip is written at the buffer's start, or nothing. It has no limit in it, so that a stored file's is the same.
+// `write_slip` takes any bytes, in a form, and any buffer. `slip_on` does the same for a file that is accepted with a known layout. The
+// whole slip is written at the buffer's start, or nothing. It has no limit in it, so that a stored file's is the same.
 ghost use mathlib.Core.Path.{_≡_};
 ghost use mathlib.Core.List.{_++_};
 ghost use Prim.Native.Nat.{_≤_, _<_};
@@ -9,7 +9,6 @@ ghost use lib.ListN.{length};
 ghost use lib.Dec.{eqb};
 ghost use Rattle.theory.specs.Sum.{pick};
 ghost use Rattle.text.specs.Buffer.{Appended, Room};
-ghost use Rattle.claimfile.specs.File.{newFile, storedFile};
 ghost use Rattle.claimfile.specs.Sound.{Sound};
 ghost use Rattle.slip.specs.Slip.{keptRows, earnedRows, firstLine, rowLine, keptLine, keptLines, slip};
 ghost use Rattle.slip.specs.Write.{Covers, WritesOn, Slips};
@@ -158,8 +157,9 @@ pub fn slip_on(file: &[u8], layout: Layout, selection: &[u8], out: &mut [u8]) ->
     Written::Bytes(put_slip(file, layout, kept, selection, out))
 }
 
-// Writes the slip of a file in a form.
-fn write_slip_as(file: &[u8], form: Form, selection: &[u8], out: &mut [u8]) -> Written
+// Writes the slip of a file in a form, with a selection whose ones are the kept rows. The selection has N bytes or more, where N is the
+// number of claims, and the buffer 33 × (kept + 1) or more, where kept is how many of the N bytes are 1.
+pub fn write_slip(file: &[u8], form: Form, selection: &[u8], out: &mut [u8]) -> Written
     ensures { λ r. ⌜ Slips form (now (file .entry)) (now (selection .entry)) (now (out .entry)) (now (out .exit)) r ⌝ }
 {
     let reading = read(file, form);
@@ -167,19 +167,4 @@ fn write_slip_as(file: &[u8], form: Form, selection: &[u8], out: &mut [u8]) -> W
         Reading::Refused(why) => Written::Refused(Reason::File(why)),
         Reading::Accepted(layout) => slip_on(file, layout, selection, out),
     }
-}
-
-// Writes the slip of a file with a selection whose ones are the kept rows. The selection has N bytes or more, where N is the number of
-// claims, and the buffer 33 × (kept + 1) or more, where kept is how many of the N bytes are 1.
-pub fn write_slip(file: &[u8], selection: &[u8], out: &mut [u8]) -> Written
-    ensures { λ r. ⌜ Slips newFile (now (file .entry)) (now (selection .entry)) (now (out .entry)) (now (out .exit)) r ⌝ }
-{
-    write_slip_as(file, Form { stored: false }, selection, out)
-}
-
-// The same for a stored file.
-pub fn write_slip_stored(file: &[u8], selection: &[u8], out: &mut [u8]) -> Written
-    ensures { λ r. ⌜ Slips storedFile (now (file .entry)) (now (selection .entry)) (now (out .entry)) (now (out .exit)) r ⌝ }
-{
-    write_slip_as(file, Form { stored: true }, selection, out)
 }

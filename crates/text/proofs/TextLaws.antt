@@ -6,13 +6,14 @@
 --   pick-length            one of two words is no longer than both may be
 --   blanks-more, blanks-length   one blank more, and how many there are
 --   right-length, spread-length  what is no wider than its field fills it
+--   right-small, right-more, right-none  a number in a field, by its last digit
 --   print-append, print-blanks, print-decimal, print-right, print-spread    what consists of printable characters
 --   valueFrom, decimal-value   the number that digits stand for; those of n stand for n
 --   decimal-first          a number that is not 0 does not start with the digit 0
-use mathlib.Core.Path.{_≡_, refl, sym, ap, _∙_}
+use mathlib.Core.Path.{_≡_, refl, sym, ap, ap₂, _∙_}
 use Prim.Native.Nat.{ℕ, zero, suc, _+_, _-_, _*_, _/_, _%_, _^_, _≤_, _<_}
 use mathlib.Core.Bool.{Bool, true, false, _&&_}
-use mathlib.Core.List.{List, [], _∷_, _++_}
+use mathlib.Core.List.{List, [], _∷_, _++_, append-assoc}
 use native.Mathlib.Nat.{pow-suc}
 use native.Mathlib.Numerals.{add-one}
 use native.Mathlib.Decide.{decLt}
@@ -87,6 +88,25 @@ blanks-length (suc n) = simp length-append (omega (arith, blanks-length n))
 
 pub right-length : (width : ℕ) (b : List ℕ) → length b ≤ width → length (atRight width b) ≡ width
 right-length width b h = simp length-append (omega (arith, blanks-length (width - length b)))
+
+-- a field of a number, from its last digit on: what is left of the field has the tenth of the number, or blanks
+pub right-small : (width n : ℕ) → n < 10 → atRight width (decimal n) ≡ blanks (width - 1) ++ ((48 + n) ∷ [])
+right-small width n h = ap (atRight width) (decimal-small n h)
+
+pub right-more :
+    (width n : ℕ) → 10 ≤ n → atRight width (decimal n) ≡ atRight (width - 1) (decimal (n / 10)) ++ ((48 + n % 10) ∷ [])
+right-more width n h =
+    let tenth = decimal (n / 10) in
+    let left : width - length (decimal n) ≡ width - 1 - length tenth = omega (arith, decimal-more-length n h) in
+    ap₂ (λ m b. blanks m ++ b) left (decimal-more n h)
+    ∙ sym (append-assoc (blanks (width - 1 - length tenth)) tenth ((48 + n % 10) ∷ []))
+
+-- a field of no width is the number alone
+pub right-none : (b : List ℕ) → atRight 0 b ≡ b
+unfolding blanks
+right-none b =
+    let e : 0 - length b ≡ 0 = omega arith in
+    rw e
 
 pub spread-length : (width : ℕ) (w b : List ℕ) → length w + length b ≤ width → length (spread width w b) ≡ width
 spread-length width w b h =

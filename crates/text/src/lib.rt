@@ -37,18 +37,6 @@ pub fn put_word(at: usize, word: &[u8], out: &mut [u8]) -> usize
     next
 }
 
-// The decimal digits of `n`.
-pub fn put_decimal(at: usize, n: u64, out: &mut [u8]) -> usize
-    requires { ⌜ Room at (decimal n) ⌝ }
-    ensures { λ r. ⌜ Appended (now (out .entry)) (now (out .exit)) at r (decimal n) ⌝ }
-{
-    if n < 10 {
-        return put(at, 48 + n as u8, out);
-    }
-    let next = put_decimal(at, n / 10, out);
-    put(next, 48 + (n % 10) as u8, out)
-}
-
 // A word and a number.
 pub fn put_field(at: usize, word: &[u8], n: u64, out: &mut [u8]) -> usize
     requires { ⌜ Room at (now word ++ decimal n) ⌝ }
@@ -102,15 +90,26 @@ fn put_blanks(at: usize, n: usize, out: &mut [u8]) -> usize
     next
 }
 
-// A number at the right of a field of `width` bytes, after blanks. A cell of no use tells how many digits it has.
+// A number at the right of a field of `width` bytes, after blanks.
 pub fn put_right(at: usize, width: usize, n: u64, out: &mut [u8]) -> usize
     requires { ⌜ Room at (atRight width (decimal n)) ⌝ }
     ensures { λ r. ⌜ Appended (now (out .entry)) (now (out .exit)) at r (atRight width (decimal n)) ⌝ }
 {
-    let mut unused = [0u8; 1];
-    let digits = put_decimal(0, n, &mut unused);
-    let next = put_blanks(at, gap(width, digits), out);
-    put_decimal(next, n, out)
+    let rest = gap(width, 1);
+    if n < 10 {
+        let next = put_blanks(at, rest, out);
+        return put(next, 48 + n as u8, out);
+    }
+    let next = put_right(at, rest, n / 10, out);
+    put(next, 48 + (n % 10) as u8, out)
+}
+
+// The decimal digits of `n`.
+pub fn put_decimal(at: usize, n: u64, out: &mut [u8]) -> usize
+    requires { ⌜ Room at (decimal n) ⌝ }
+    ensures { λ r. ⌜ Appended (now (out .entry)) (now (out .exit)) at r (decimal n) ⌝ }
+{
+    put_right(at, 0, n, out)
 }
 
 // A word at the left and a number at the right of a field of `width` bytes, blanks between.

@@ -14,20 +14,16 @@ ghost use Rattle.till.specs.SettleNumbers.{settledNumbers, SettleIs};
 ghost use Rattle.till.specs.WriteNumbers.{writtenNumbers, WriteIs};
 ghost use Rattle.till.specs.Version.{version};
 use canonical::write_canonical;
-use canonical::write_canonical_stored;
+use claimfile::Form;
 use closing::Settled;
 use closing::settle;
-use closing::settle_stored;
 use limits::Ranked;
 use limits::Spare;
 use limits::fits_and_rank;
-use limits::fits_and_rank_stored;
 use limits::spare_places;
-use limits::spare_places_stored;
 use refusal::Written;
 use refusal::number;
 use slip::write_slip;
-use slip::write_slip_stored;
 
 // Which library this is. It rises by one with each change of a call, a needed length or an answer.
 pub const VERSION: u32 = 6;
@@ -83,12 +79,19 @@ fn ranked_numbers(answer: Ranked) -> FitsAndRank
     }
 }
 
+// Fits and rank for a file in a form.
+fn fits_and_rank_as(file: &[u8], form: Form, selection: &[u8], side: u32) -> FitsAndRank
+    ensures { λ r. ⌜ FitsAndRankIs form (now (file .entry)) (now (selection .entry)) side r ⌝ }
+{
+    ranked_numbers(fits_and_rank(file, form, selection, side as usize))
+}
+
 // Whether a selection fits a side (0 card, 1 shop), and its rank there.
 #[no_mangle]
 pub extern "C" fn claims_fits_and_rank(file: &[u8], selection: &[u8], side: u32) -> FitsAndRank
     ensures { λ r. ⌜ FitsAndRankIs newFile (now (file .entry)) (now (selection .entry)) side r ⌝ }
 {
-    ranked_numbers(fits_and_rank(file, selection, side as usize))
+    fits_and_rank_as(file, Form { stored: false }, selection, side)
 }
 
 // The same for a stored file.
@@ -100,7 +103,7 @@ pub extern "C" fn claims_fits_and_rank_stored(
 ) -> FitsAndRank
     ensures { λ r. ⌜ FitsAndRankIs storedFile (now (file .entry)) (now (selection .entry)) side r ⌝ }
 {
-    ranked_numbers(fits_and_rank_stored(file, selection, side as usize))
+    fits_and_rank_as(file, Form { stored: true }, selection, side)
 }
 
 // The numbers for an answer of spare places.
@@ -120,12 +123,19 @@ fn spare_numbers(answer: Spare) -> SparePlacesAnswer
     }
 }
 
+// Spare places for a file in a form.
+fn spare_places_as(file: &[u8], form: Form, selection: &[u8], row: u32) -> SparePlacesAnswer
+    ensures { λ r. ⌜ SparePlacesIs form (now (file .entry)) (now (selection .entry)) row r ⌝ }
+{
+    spare_numbers(spare_places(file, form, selection, row as usize))
+}
+
 // How many further claims like the row would fit beside a selection that does not hold it.
 #[no_mangle]
 pub extern "C" fn claims_spare_places(file: &[u8], selection: &[u8], row: u32) -> SparePlacesAnswer
     ensures { λ r. ⌜ SparePlacesIs newFile (now (file .entry)) (now (selection .entry)) row r ⌝ }
 {
-    spare_numbers(spare_places(file, selection, row as usize))
+    spare_places_as(file, Form { stored: false }, selection, row)
 }
 
 // The same for a stored file.
@@ -137,7 +147,7 @@ pub extern "C" fn claims_spare_places_stored(
 ) -> SparePlacesAnswer
     ensures { λ r. ⌜ SparePlacesIs storedFile (now (file .entry)) (now (selection .entry)) row r ⌝ }
 {
-    spare_numbers(spare_places_stored(file, selection, row as usize))
+    spare_places_as(file, Form { stored: true }, selection, row)
 }
 
 // The numbers for an answer of settle.
@@ -160,6 +170,19 @@ fn settled_numbers(settled: Settled) -> SettleAnswer
     }
 }
 
+// Settle for a file in a form.
+fn settle_as(
+    file: &[u8],
+    form: Form,
+    choice: &mut [u8],
+    sheet: &mut [u32],
+    scratch: &mut [u32],
+) -> SettleAnswer
+    ensures { λ r. ⌜ SettleIs form (now (file .entry)) (now (choice .entry)) (now (sheet .entry)) (now (scratch .entry)) (now (choice .exit)) (now (sheet .exit)) (now (scratch .exit)) r ⌝ }
+{
+    settled_numbers(settle(file, form, choice, sheet, scratch))
+}
+
 // Settles a file: leaves the best choice and the marks, and clears the scratch.
 #[no_mangle]
 pub extern "C" fn claims_settle(
@@ -170,7 +193,7 @@ pub extern "C" fn claims_settle(
 ) -> SettleAnswer
     ensures { λ r. ⌜ SettleIs newFile (now (file .entry)) (now (choice .entry)) (now (sheet .entry)) (now (scratch .entry)) (now (choice .exit)) (now (sheet .exit)) (now (scratch .exit)) r ⌝ }
 {
-    settled_numbers(settle(file, choice, sheet, scratch))
+    settle_as(file, Form { stored: false }, choice, sheet, scratch)
 }
 
 // The same for a stored file.
@@ -183,7 +206,7 @@ pub extern "C" fn claims_settle_stored(
 ) -> SettleAnswer
     ensures { λ r. ⌜ SettleIs storedFile (now (file .entry)) (now (choice .entry)) (now (sheet .entry)) (now (scratch .entry)) (now (choice .exit)) (now (sheet .exit)) (now (scratch .exit)) r ⌝ }
 {
-    settled_numbers(settle_stored(file, choice, sheet, scratch))
+    settle_as(file, Form { stored: true }, choice, sheet, scratch)
 }
 
 // The numbers for an answer of a call that writes.
@@ -202,12 +225,19 @@ fn written_numbers(written: Written) -> WriteAnswer
     }
 }
 
+// The slip for a file in a form.
+fn write_slip_as(file: &[u8], form: Form, selection: &[u8], slip: &mut [u8]) -> WriteAnswer
+    ensures { λ r. ⌜ WriteIs (slip-write.outcome form (now (file .entry)) (now (selection .entry)) (now (slip .entry))) (now (slip .exit)) r ⌝ }
+{
+    written_numbers(write_slip(file, form, selection, slip))
+}
+
 // Writes the slip of the rows that a selection keeps.
 #[no_mangle]
 pub extern "C" fn claims_write_slip(file: &[u8], selection: &[u8], slip: &mut [u8]) -> WriteAnswer
     ensures { λ r. ⌜ WriteIs (slip-write.outcome newFile (now (file .entry)) (now (selection .entry)) (now (slip .entry))) (now (slip .exit)) r ⌝ }
 {
-    written_numbers(write_slip(file, selection, slip))
+    write_slip_as(file, Form { stored: false }, selection, slip)
 }
 
 // The same for a stored file.
@@ -219,7 +249,14 @@ pub extern "C" fn claims_write_slip_stored(
 ) -> WriteAnswer
     ensures { λ r. ⌜ WriteIs (slip-write.outcome storedFile (now (file .entry)) (now (selection .entry)) (now (slip .entry))) (now (slip .exit)) r ⌝ }
 {
-    written_numbers(write_slip_stored(file, selection, slip))
+    write_slip_as(file, Form { stored: true }, selection, slip)
+}
+
+// The canonical form of a file in a form.
+fn write_canonical_as(file: &[u8], form: Form, canonical: &mut [u8]) -> WriteAnswer
+    ensures { λ r. ⌜ WriteIs (canonical-write.outcome form (now (file .entry)) (now (canonical .entry))) (now (canonical .exit)) r ⌝ }
+{
+    written_numbers(write_canonical(file, form, canonical))
 }
 
 // Writes the canonical form of a file.
@@ -227,7 +264,7 @@ pub extern "C" fn claims_write_slip_stored(
 pub extern "C" fn claims_write_canonical(file: &[u8], canonical: &mut [u8]) -> WriteAnswer
     ensures { λ r. ⌜ WriteIs (canonical-write.outcome newFile (now (file .entry)) (now (canonical .entry))) (now (canonical .exit)) r ⌝ }
 {
-    written_numbers(write_canonical(file, canonical))
+    write_canonical_as(file, Form { stored: false }, canonical)
 }
 
 // The same for a stored file: its limits are written as lowered.
@@ -235,7 +272,7 @@ pub extern "C" fn claims_write_canonical(file: &[u8], canonical: &mut [u8]) -> W
 pub extern "C" fn claims_write_canonical_stored(file: &[u8], canonical: &mut [u8]) -> WriteAnswer
     ensures { λ r. ⌜ WriteIs (canonical-write.outcome storedFile (now (file .entry)) (now (canonical .entry))) (now (canonical .exit)) r ⌝ }
 {
-    written_numbers(write_canonical_stored(file, canonical))
+    write_canonical_as(file, Form { stored: true }, canonical)
 }
 
 // The version, for a box to be asked.

@@ -1,11 +1,11 @@
--- `spare_places_as` meets its contract: a file that is entered is ready for the body, and each answer is that of the definition.
+-- `spare_places` meets its contract: a file that is entered is ready for the body, and each answer is that of the definition.
 use mathlib.Core.Path.{refl, sym, _∙_}
 use native.Mathlib.Omega.{arith}
 use borrow.Author.Needs.{needs}
 use Rattle.limits.proofs.EntryLaws.{entered-ready}
 use Rattle.limits.proofs.SpareLaws.{spare-value, spare-selected, spare-row, spared-by}
-use Rattle.limits.proofs.spare_places_as.Statement.{statement}
-use Rattle.limits.proofs.spare_places_as.Tie as tie
+use Rattle.limits.proofs.spare_places.Statement.{statement}
+use Rattle.limits.proofs.spare_places.Tie as tie
 
 enter-requires : tie.Need-enter-requires
 enter-requires c κs = search needs
@@ -72,8 +72,8 @@ returns-4 c =
     (spare-row (a .file .now) (a .selection .now) (a .row) _ (omega arith) (c .before .if2 .left) (c .spare-on .result)
     (c .spare-on .ensures .is))
 
-pub spare-places-as-spec : {M : Type 1} → statement M
-spare-places-as-spec =
+pub spare-places-spec : {M : Type 1} → statement M
+spare-places-spec =
     tie.close
     (tie.spec
     enter-requires

@@ -1,11 +1,11 @@
--- `fits_and_rank_as` meets its contract: a file that is entered is ready for the body, and each answer is that of the definition.
+-- `fits_and_rank` meets its contract: a file that is entered is ready for the body, and each answer is that of the definition.
 use mathlib.Core.Path.{refl, sym, _∙_}
 use native.Mathlib.Omega.{arith}
 use borrow.Author.Needs.{needs}
 use Rattle.limits.proofs.EntryLaws.{entered-ready}
 use Rattle.limits.proofs.AnswerLaws.{ranked-value, ranked-side, answered-by}
-use Rattle.limits.proofs.fits_and_rank_as.Statement.{statement}
-use Rattle.limits.proofs.fits_and_rank_as.Tie as tie
+use Rattle.limits.proofs.fits_and_rank.Statement.{statement}
+use Rattle.limits.proofs.fits_and_rank.Tie as tie
 
 enter-requires : tie.Need-enter-requires
 enter-requires c κs = search needs
@@ -48,8 +48,8 @@ returns-3 c =
     (ranked-side (a .file .now) (a .selection .now) (a .side) _ (omega arith) (c .rank-on .result) (c .rank-on .ensures .is) _ _
     refl (omega arith))
 
-pub fits-and-rank-as-spec : {M : Type 1} → statement M
-fits-and-rank-as-spec =
+pub fits-and-rank-spec : {M : Type 1} → statement M
+fits-and-rank-spec =
     tie.close
     (tie.spec
     enter-requires

@@ -1,10 +1,10 @@
--- `write_slip_as` meets its contract: the file's first fault is told with nothing changed, and for an accepted file `slip_on` writes.
+-- `write_slip` meets its contract: the file's first fault is told with nothing changed, and for an accepted file `slip_on` writes.
 use mathlib.Core.Path.{sym, _∙_}
 use borrow.Author.Needs.{needs}
 use Rattle.claimfile.proofs.AcceptedLaws.{accepted-sound}
 use Rattle.slip.proofs.WriteLaws.{slips-refused, slips-accepted}
-use Rattle.slip.proofs.write_slip_as.Statement.{statement}
-use Rattle.slip.proofs.write_slip_as.Tie as tie
+use Rattle.slip.proofs.write_slip.Statement.{statement}
+use Rattle.slip.proofs.write_slip.Tie as tie
 
 read-requires : tie.Need-read-requires
 read-requires c κs = search needs
@@ -38,8 +38,8 @@ returns-2 c =
     slips-accepted (a .form) (a .file .now) (a .selection .now) (a .out .now) _ _ _
     (sym (told .before .before .read .ensures) ∙ told .reading2 .given .1) (written .slip-on .ensures)
 
-pub write-slip-as-spec : {M : Type 1} → statement M
-write-slip-as-spec =
+pub write-slip-spec : {M : Type 1} → statement M
+write-slip-spec =
     tie.close
     (tie.spec
     read-requires

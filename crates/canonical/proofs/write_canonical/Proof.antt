@@ -1,12 +1,12 @@
--- `write_canonical_as` meets its contract: the file's first fault is told, then that the buffer is shorter than the file, each with
+-- `write_canonical` meets its contract: the file's first fault is told, then that the buffer is shorter than the file, each with
 -- nothing changed; else `canonical_on` writes.
 use mathlib.Core.Path.{sym, _∙_}
 use native.Mathlib.Omega.{arith}
 use borrow.Author.Needs.{needs}
 use Rattle.claimfile.proofs.AcceptedLaws.{accepted-sound}
 use Rattle.canonical.proofs.WriteLaws.{writes-refused, writes-short, writes-written}
-use Rattle.canonical.proofs.write_canonical_as.Statement.{statement}
-use Rattle.canonical.proofs.write_canonical_as.Tie as tie
+use Rattle.canonical.proofs.write_canonical.Statement.{statement}
+use Rattle.canonical.proofs.write_canonical.Tie as tie
 
 read-requires : tie.Need-read-requires
 read-requires c κs = search needs
@@ -49,8 +49,8 @@ returns-3 c =
     writes-written (a .form) (a .file .now) (a .out .now) _ (sym (found .read .ensures) ∙ told .reading2 .given .1) _ _ (omega arith)
     (written .canonical-on .ensures)
 
-pub write-canonical-as-spec : {M : Type 1} → statement M
-write-canonical-as-spec =
+pub write-canonical-spec : {M : Type 1} → statement M
+write-canonical-spec =
     tie.close
     (tie.spec
     read-requires
