@@ -1,6 +1,6 @@
 /*
- * Every contestant's answer against ours, and ours against a search through all selections, on a handful of days; and the stack of every
- * call against its bound.
+ * Every contestant's answer against ours, and ours against a search through all selections, on a handful of days; the codes against the
+ * ranks of the rows that have them; and the stack of every call against its bound.
  *
  *   check CALL...    CALL... are the names of the calls that the archive exports
  */
@@ -72,6 +72,31 @@ static void check_ranks(const struct file *day, unsigned family, unsigned rows, 
         }
 }
 
+/* How many of the rows with a code are kept. The rows with the code, kept or not, are left as a selection. */
+static unsigned kept_with(const struct day *d, const uint8_t *kept, const uint8_t *codes, unsigned code, uint8_t *coded) {
+    unsigned count = 0;
+    for (unsigned c = 0; c < d->rows; c++) {
+        coded[c] = codes[c] == code;
+        count += coded[c] && kept[c];
+    }
+    return count;
+}
+
+/* Just the ordinary rows have code 0. Of the rows with code 1 as many are kept as fit the shop side, of those with code 2 the card side. */
+static void check_codes(const struct file *day, unsigned family, unsigned rows, unsigned number) {
+    static struct outcome kept;
+    static struct day d;
+    static uint8_t codes[MOST_ROWS], coded[MOST_ROWS];
+    unsigned wrong = 0;
+    ours_settle(day->bytes, day->length, &kept);
+    check(ours_codes(day->bytes, day->length, codes) == 0, "no codes", "ours", family, rows, number);
+    wrong += read_day(day->bytes, day->length, NEW, &d) != 0;
+    for (unsigned c = 0; c < rows; c++) wrong += (codes[c] == CLAIMS_CODE_ORDINARY) != (d.kind[c] == 0) || codes[c] > CLAIMS_CODE_REST;
+    wrong += kept_with(&d, kept.choice, codes, CLAIMS_CODE_SHOP, coded) != rank_side(&d, SHOP, coded).rank;
+    wrong += kept_with(&d, kept.choice, codes, CLAIMS_CODE_CARD, coded) != rank_side(&d, CARD, coded).rank;
+    check(wrong == 0, "the codes go against the ranks", "ours", family, rows, number);
+}
+
 /* A file that is cut, lengthened, or has one byte set anew: the readers give the same number. */
 static void check_damaged(const struct file *day, unsigned family, unsigned rows, unsigned number) {
     static struct file hurt;
@@ -120,12 +145,14 @@ int main(int argc, char **argv) {
                 make_day(family, small[s], number, &day);
                 check_searched(&day, family, small[s], number);
                 check_settled(&day, family, small[s], number);
+                check_codes(&day, family, small[s], number);
             }
         for (unsigned s = 0; s < 2; s++)
             for (unsigned number = 0; number < DAYS; number++) {
                 make_day(family, large[s], number, &day);
                 check_settled(&day, family, large[s], number);
                 check_ranks(&day, family, large[s], number);
+                check_codes(&day, family, large[s], number);
             }
         make_day(family, 64, 0, &day);
         check_damaged(&day, family, 64, 0);

@@ -14,6 +14,10 @@ void ours_settle(const uint8_t *file, size_t length, struct outcome *out) { sett
 
 void ours_settle_stored(const uint8_t *file, size_t length, struct outcome *out) { settle_by(&sorts[STORED], file, length, out); }
 
+unsigned ours_codes(const uint8_t *file, size_t length, uint8_t *codes) {
+    return claims_write_codes(file, length, codes, MOST_ROWS, scratch, 8 * MOST_MARKS).refusal;
+}
+
 /* With no memory lent, settle judges the file and then answers that the memory is short; with no group and no row none is needed. */
 unsigned ours_judge(const uint8_t *file, size_t length) {
     unsigned refusal = claims_settle(file, length, (uint8_t *)sheet, 0, sheet, 0, scratch, 0).refusal;
@@ -52,6 +56,12 @@ static void make_canonical(const struct sort *by, const struct file *day, const 
     by->write_canonical(day->bytes, day->length, canonical, CLAIMS_LONGEST_CANONICAL);
 }
 
+static void make_codes(const struct sort *by, const struct file *day, const uint8_t *selection) {
+    static uint8_t codes[CLAIMS_LONGEST_CODES];
+    (void)selection;
+    by->write_codes(day->bytes, day->length, codes, CLAIMS_LONGEST_CODES, scratch, 8 * MOST_MARKS);
+}
+
 static void make_version(const struct sort *by, const struct file *day, const uint8_t *selection) {
     (void)by, (void)day, (void)selection;
     claims_version();
@@ -66,6 +76,7 @@ const struct call calls[] = {
     EACH_SORT("claims_spare_places", make_spare_places),
     EACH_SORT("claims_write_slip", make_slip),
     EACH_SORT("claims_write_canonical", make_canonical),
+    EACH_SORT("claims_write_codes", make_codes),
     {"claims_version", make_version, NULL},
 };
 const unsigned call_count = sizeof calls / sizeof *calls;

@@ -11,6 +11,9 @@ void ours_settle(const uint8_t *file, size_t length, struct outcome *out);
 /* The same for a stored file. */
 void ours_settle_stored(const uint8_t *file, size_t length, struct outcome *out);
 
+/* The codes of a file's rows. Answers the refusal. */
+unsigned ours_codes(const uint8_t *file, size_t length, uint8_t *codes);
+
 /* The file judged and nothing more: 0, or the number of the first fault. */
 unsigned ours_judge(const uint8_t *file, size_t length);
 

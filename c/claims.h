@@ -15,9 +15,9 @@
  * address. Of the C library it needs memset and memcpy at most. It has no variables of its own and uses no heap; docs/PERFORMANCE.md says
  * how much code it has and how much stack it takes.
  *
- * The calls keep no state. Only claims_settle, claims_write_slip and claims_write_canonical, and the calls for stored files beside these,
- * change memory that is lent to them, and only where they answer no refusal. Calls may be made from several threads at once, where what
- * they are lent to change is not shared.
+ * The calls keep no state. Only claims_settle, claims_write_slip, claims_write_canonical and claims_write_codes, and the calls for stored
+ * files beside these, change memory that is lent to them, and only where they answer no refusal. Calls may be made from several threads at
+ * once, where what they are lent to change is not shared.
  *
  * A pointer must not be null, even where the length beside it is 0, and as many elements must stand there as the length says. Buffers
  * that are lent to one call do not overlap.
@@ -36,7 +36,7 @@ extern "C" {
  * The version: which library this header describes. It rises by one with each release that changes a call, a needed length or an answer.
  * claims_version() tells the version of the library that a program is linked with.
  */
-#define CLAIMS_VERSION 6u
+#define CLAIMS_VERSION 7u
 
 /* The most that a file may hold. */
 #define CLAIMS_MOST_GROUPS 256u   /* in one section, card groups or shop groups */
@@ -44,9 +44,9 @@ extern "C" {
 #define CLAIMS_LONGEST_FILE 4614u /* bytes: all three sections are full */
 
 /*
- * The lengths that a call needs, counted in elements: bytes of a selection, of the choice, of the slip and of the canonical file, numbers of
- * 32 bits of the sheet and of the scratch. `claims` is the file's number of claims, `groups` that of its card groups and shop groups
- * together, `kept` that of the selection's bytes that are 1, and `file_length` that of the file's bytes.
+ * The lengths that a call needs, counted in elements: bytes of a selection, of the choice, of the slip, of the canonical file and of the
+ * codes, numbers of 32 bits of the sheet and of the scratch. `claims` is the file's number of claims, `groups` that of its card groups and
+ * shop groups together, `kept` that of the selection's bytes that are 1, and `file_length` that of the file's bytes.
  */
 #define CLAIMS_SELECTION_LENGTH(claims) (claims)
 #define CLAIMS_CHOICE_LENGTH(claims) (claims)
@@ -54,6 +54,7 @@ extern "C" {
 #define CLAIMS_SCRATCH_LENGTH(groups, claims) (8u * ((groups) + (claims)))
 #define CLAIMS_SLIP_LENGTH(kept) (33u * ((kept) + 1u))
 #define CLAIMS_CANONICAL_LENGTH(file_length) (file_length)
+#define CLAIMS_CODES_LENGTH(claims) (claims)
 
 /* The same at most: buffers of these lengths serve every file. */
 #define CLAIMS_LONGEST_SELECTION 512u
@@ -62,10 +63,17 @@ extern "C" {
 #define CLAIMS_LONGEST_SCRATCH 8192u
 #define CLAIMS_LONGEST_SLIP 16929u
 #define CLAIMS_LONGEST_CANONICAL 4614u
+#define CLAIMS_LONGEST_CODES 512u
 
 /* The two sides of a day. */
 #define CLAIMS_CARD 0u
 #define CLAIMS_SHOP 1u
+
+/* The codes of rows. claims_write_codes says what they mean. */
+#define CLAIMS_CODE_ORDINARY 0u /* the row is ordinary */
+#define CLAIMS_CODE_SHOP 1u     /* an earned row that shop limits hold */
+#define CLAIMS_CODE_CARD 2u     /* an earned row that card limits hold */
+#define CLAIMS_CODE_REST 3u     /* any other earned row */
 
 /*
  * Why a call is turned away: the numbers of documents 01 and 02. The file is judged first, from its front, and the first fault met is the
@@ -115,6 +123,12 @@ struct claims_write_slip_answer {
 struct claims_write_canonical_answer {
     uint32_t refusal; /* 0, or the number of the reason why the call is turned away; the other field is 0 then */
     uint64_t length;  /* how many bytes were written, at most as many as the file has */
+};
+
+/* What claims_write_codes answers. */
+struct claims_write_codes_answer {
+    uint32_t refusal; /* 0, or the number of the reason why the call is turned away; the other field is 0 then */
+    uint64_t length;  /* how many bytes were written: one for each claim */
 };
 
 /* The version of the library. Where it is not CLAIMS_VERSION, this header describes another one. */
@@ -223,6 +237,41 @@ struct claims_write_canonical_answer claims_write_canonical(
 struct claims_write_canonical_answer claims_write_canonical_stored(
     const uint8_t *file, size_t file_length,
     uint8_t *canonical, size_t canonical_length);
+
+/*
+ * Writes a code for each row of a file. For an earned row that claims_settle turns down it says which limits to raise:
+ *
+ *     1   a shop limit. Where the limit of each shop group that the row counts in is raised by one, one earned row more is kept
+ *     2   a card limit. The same is true of the card groups that the row counts in, which are those above the one that it names
+ *     3   neither alone. Where the limit of each group that the row counts in, on both sides, is raised by one, at least one earned row
+ *         more is kept
+ *
+ * The row that is kept then may be another one, since row order decides among equal choices. A limit of 65535 need not be raised.
+ *
+ * The other side's limits do not help. Of the rows with code 1 as many are kept as fit the shop side, and of those with code 2 as many as
+ * fit the card side. However far card limits alone are raised, no more rows with code 1 are kept than before, and no more with codes 1 and
+ * 3 together. However far shop limits alone are raised, no more rows with code 2 are kept, and no more with codes 2 and 3 together. Where
+ * no row has code 1, shop limits alone bring no earned row more; where none has code 2, card limits alone bring none.
+ *
+ * An ordinary row has code 0, and an earned row that is kept has one of the others too. The codes come from a largest choice of earned rows
+ * that fits both sides and are the same whichever is taken, so that they depend neither on row order nor on ordinary rows. For a stored
+ * file they are the same by the limits as they stand in it and by the lowered ones.
+ *
+ * Longer buffers are accepted; what lies past the needed length is neither read nor changed. What the buffers hold before does not matter.
+ * Where a refusal is answered, no buffer is changed.
+ *
+ * file, file_length         the claim file
+ * codes, codes_length       CLAIMS_CODES_LENGTH(claims) bytes at least: afterwards the code of each row
+ * scratch, scratch_length   CLAIMS_SCRATCH_LENGTH(groups, claims) numbers at least, as for claims_settle: afterwards zero
+ */
+struct claims_write_codes_answer claims_write_codes(
+    const uint8_t *file, size_t file_length,
+    uint8_t *codes, size_t codes_length,
+    uint32_t *scratch, size_t scratch_length);
+struct claims_write_codes_answer claims_write_codes_stored(
+    const uint8_t *file, size_t file_length,
+    uint8_t *codes, size_t codes_length,
+    uint32_t *scratch, size_t scratch_length);
 
 #ifdef __cplusplus
 }

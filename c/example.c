@@ -1,5 +1,6 @@
 /*
- * A small till: it settles one claim file, a new one, and prints which rows are kept.
+ * A small till: it settles one claim file, a new one, and prints which rows are kept and, where an earned row is turned down, which limits
+ * to raise.
  *
  *     gcc -O2 -Ic c/example.c target/staticlib/libtill.a -o example
  *     ./example samples/day_a.claims          or          ./example < samples/day_a.claims
@@ -20,6 +21,7 @@
  */
 static uint8_t file[CLAIMS_LONGEST_FILE + 1];
 static uint8_t choice[CLAIMS_LONGEST_CHOICE];
+static uint8_t codes[CLAIMS_LONGEST_CODES];
 static uint32_t sheet[CLAIMS_LONGEST_SHEET];
 static uint32_t scratch[CLAIMS_LONGEST_SCRATCH];
 
@@ -36,6 +38,14 @@ static const char *const meaning[] = {
     [CLAIMS_VALUE] = "a selection byte is over 1, a side is over 1, or a row is not below N",
     [CLAIMS_SELECTED] = "the row is already in the selection",
     [CLAIMS_LIMIT_ABOVE] = "a group's limit is above its parent's",
+};
+
+/* What is said of a row that is turned down, by its code. */
+static const char *const turned_down[] = {
+    [CLAIMS_CODE_ORDINARY] = "turned down",
+    [CLAIMS_CODE_SHOP] = "turned down: raise a shop limit",
+    [CLAIMS_CODE_CARD] = "turned down: raise a card limit",
+    [CLAIMS_CODE_REST] = "turned down: neither a shop limit nor a card limit alone helps",
 };
 
 int main(int count, char **words) {
@@ -65,9 +75,15 @@ int main(int count, char **words) {
         return 1;
     }
 
-    /* The choice holds 1 for each kept row. Past the file's last row the library changes nothing: zeros stand there. */
-    for (unsigned row = 0; row < CLAIMS_MOST_CLAIMS; row++)
-        if (choice[row] == 1) printf("row %u is kept\n", row);
+    /* The codes of the rows. The file and the memory are good, so that this call is not turned away; its answer has the number of rows. */
+    struct claims_write_codes_answer written = claims_write_codes(
+        file, length,
+        codes, CLAIMS_LONGEST_CODES,
+        scratch, CLAIMS_LONGEST_SCRATCH);
+
+    /* The choice holds 1 for each kept row. The code of a row says which line is printed where it is turned down. */
+    for (unsigned row = 0; row < written.length; row++)
+        printf("row %u is %s\n", row, choice[row] == 1 ? "kept" : turned_down[codes[row]]);
     printf("earned %u kept %u total %u\n", (unsigned)answer.earned, (unsigned)answer.kept, (unsigned)answer.total);
     return 0;
 }

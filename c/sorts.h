@@ -34,13 +34,18 @@ struct sort {
     struct claims_write_canonical_answer (*write_canonical)(
         const uint8_t *file, size_t file_length,
         uint8_t *canonical, size_t canonical_length);
+    struct claims_write_codes_answer (*write_codes)(
+        const uint8_t *file, size_t file_length,
+        uint8_t *codes, size_t codes_length,
+        uint32_t *scratch, size_t scratch_length);
 };
 
 /* The table. sorts[NEW] has the calls for new files, sorts[STORED] those for stored ones. */
 static const struct sort sorts[] = {
-    {"new files", NEW, claims_fits_and_rank, claims_spare_places, claims_settle, claims_write_slip, claims_write_canonical},
+    {"new files", NEW, claims_fits_and_rank, claims_spare_places, claims_settle, claims_write_slip, claims_write_canonical,
+     claims_write_codes},
     {"stored files", STORED, claims_fits_and_rank_stored, claims_spare_places_stored, claims_settle_stored, claims_write_slip_stored,
-     claims_write_canonical_stored},
+     claims_write_canonical_stored, claims_write_codes_stored},
 };
 enum { SORTS = sizeof sorts / sizeof *sorts };
 

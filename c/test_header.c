@@ -7,7 +7,7 @@ static const struct sort *by;
 static struct file file;
 static uint8_t choice[CLAIMS_LONGEST_CHOICE];
 static uint32_t sheet[CLAIMS_LONGEST_SHEET], scratch[CLAIMS_LONGEST_SCRATCH];
-static uint8_t slip[CLAIMS_LONGEST_SLIP], canonical[CLAIMS_LONGEST_CANONICAL];
+static uint8_t slip[CLAIMS_LONGEST_SLIP], canonical[CLAIMS_LONGEST_CANONICAL], codes[CLAIMS_LONGEST_CODES];
 static const uint8_t no_row[CLAIMS_LONGEST_SELECTION];
 
 /* The refusal of a call on the file, which is that of the day. Settle has buffers so many cells shorter than the macros say. */
@@ -17,6 +17,16 @@ static unsigned settled_with(const struct day *d, size_t choice_less, size_t she
         file.bytes, file.length,
         choice, CLAIMS_CHOICE_LENGTH(d->rows) - choice_less,
         sheet, CLAIMS_SHEET_LENGTH(groups, d->rows) - sheet_less,
+        scratch, CLAIMS_SCRATCH_LENGTH(groups, d->rows) - scratch_less);
+    return r.refusal;
+}
+
+/* The codes have buffers so many cells shorter than the macros say. */
+static unsigned coded_with(const struct day *d, size_t codes_less, size_t scratch_less) {
+    unsigned groups = d->groups[CARD] + d->groups[SHOP];
+    struct claims_write_codes_answer r = by->write_codes(
+        file.bytes, file.length,
+        codes, CLAIMS_CODES_LENGTH(d->rows) - codes_less,
         scratch, CLAIMS_SCRATCH_LENGTH(groups, d->rows) - scratch_less);
     return r.refusal;
 }
@@ -48,9 +58,12 @@ static void lengths(const struct day *d) {
     expect(canonical_with(CLAIMS_CANONICAL_LENGTH(file.length) - 1) == CLAIMS_SHORT, "a canonical form one short");
     expect(settled_with(d, 0, 1, 0) == CLAIMS_SHORT, "a sheet one short");
     expect(settled_with(d, 0, 0, 1) == CLAIMS_SHORT, "a scratch one short");
+    expect(coded_with(d, 0, 0) == 0, "the codes with the needed lengths");
+    expect(coded_with(d, 0, 1) == CLAIMS_SHORT, "the codes with a scratch one short");
     if (d->rows == 0) return;
     expect(spare_with(selection) == 0, "spare places with the needed length");
     expect(settled_with(d, 1, 0, 0) == CLAIMS_SHORT, "a choice one short");
+    expect(coded_with(d, 1, 0) == CLAIMS_SHORT, "codes one short");
     expect(ranked_with(selection - 1) == CLAIMS_SHORT, "fits and rank with a selection one short");
     expect(slip_with(selection - 1, CLAIMS_LONGEST_SLIP) == CLAIMS_SHORT, "the slip with a selection one short");
     expect(spare_with(selection - 1) == CLAIMS_SHORT, "spare places with a selection one short");
@@ -84,6 +97,7 @@ int main(void) {
     expect(CLAIMS_LONGEST_SCRATCH == CLAIMS_SCRATCH_LENGTH(2 * CLAIMS_MOST_GROUPS, CLAIMS_MOST_CLAIMS), "the longest scratch");
     expect(CLAIMS_LONGEST_SLIP == CLAIMS_SLIP_LENGTH(CLAIMS_MOST_CLAIMS), "the longest slip");
     expect(CLAIMS_LONGEST_CANONICAL == CLAIMS_CANONICAL_LENGTH(CLAIMS_LONGEST_FILE), "the longest canonical form");
+    expect(CLAIMS_LONGEST_CODES == CLAIMS_CODES_LENGTH(CLAIMS_MOST_CLAIMS), "the longest codes");
 
     part_done("the header alone");
 

@@ -14,17 +14,24 @@ static uint8_t selection[MOST_ROWS];
 
 /* What is lent to the calls to be changed. Before them every byte of it is FILL. */
 struct lent {
-    uint8_t choice[CLAIMS_LONGEST_CHOICE], slip[CLAIMS_LONGEST_SLIP], canonical[CLAIMS_LONGEST_CANONICAL];
-    uint32_t sheet[CLAIMS_LONGEST_SHEET], scratch[CLAIMS_LONGEST_SCRATCH];
+    uint8_t choice[CLAIMS_LONGEST_CHOICE], slip[CLAIMS_LONGEST_SLIP], canonical[CLAIMS_LONGEST_CANONICAL], codes[CLAIMS_LONGEST_CODES];
+    uint32_t sheet[CLAIMS_LONGEST_SHEET], scratch[CLAIMS_LONGEST_SCRATCH], codes_scratch[CLAIMS_LONGEST_SCRATCH];
 };
 enum { FILL = 0xa5 };
 
 /* How much of each the calls are told of: as much as any file needs, or nothing. */
 struct lengths {
-    size_t selection, choice, slip, canonical, sheet, scratch;
+    size_t selection, choice, slip, canonical, codes, sheet, scratch;
 };
-static const struct lengths longest = {CLAIMS_LONGEST_SELECTION, CLAIMS_LONGEST_CHOICE, CLAIMS_LONGEST_SLIP,
-                                       CLAIMS_LONGEST_CANONICAL, CLAIMS_LONGEST_SHEET,  CLAIMS_LONGEST_SCRATCH};
+static const struct lengths longest = {
+    .selection = CLAIMS_LONGEST_SELECTION,
+    .choice = CLAIMS_LONGEST_CHOICE,
+    .slip = CLAIMS_LONGEST_SLIP,
+    .canonical = CLAIMS_LONGEST_CANONICAL,
+    .codes = CLAIMS_LONGEST_CODES,
+    .sheet = CLAIMS_LONGEST_SHEET,
+    .scratch = CLAIMS_LONGEST_SCRATCH,
+};
 static const struct lengths nothing;
 
 /* The two sides and one that does not exist. */
@@ -37,6 +44,7 @@ struct told {
     struct claims_settle_answer settled;
     struct claims_write_slip_answer slip;
     struct claims_write_canonical_answer canonical;
+    struct claims_write_codes_answer codes;
     struct lent lent;
 };
 
@@ -50,6 +58,7 @@ static void ask(const struct sort *by, const struct file *f, const struct length
     t->settled = by->settle(f->bytes, f->length, l->choice, n->choice, l->sheet, n->sheet, l->scratch, n->scratch);
     t->slip = by->write_slip(f->bytes, f->length, selection, n->selection, l->slip, n->slip);
     t->canonical = by->write_canonical(f->bytes, f->length, l->canonical, n->canonical);
+    t->codes = by->write_codes(f->bytes, f->length, l->codes, n->codes, l->codes_scratch, n->scratch);
 }
 
 /* Whether the calls gave the number alone and changed nothing. */
@@ -60,7 +69,8 @@ static int turned_away(const struct told *t, unsigned number) {
         if (t->ranked[side].refusal != number || t->ranked[side].fits != 0 || t->ranked[side].rank != 0) return 0;
     return t->spare.refusal == number && t->spare.places == 0 && t->settled.refusal == number && t->settled.earned == 0 &&
            t->settled.kept == 0 && t->settled.total == 0 && t->slip.refusal == number && t->slip.length == 0 &&
-           t->canonical.refusal == number && t->canonical.length == 0 && memcmp(&t->lent, &before, sizeof before) == 0;
+           t->canonical.refusal == number && t->canonical.length == 0 && t->codes.refusal == number && t->codes.length == 0 &&
+           memcmp(&t->lent, &before, sizeof before) == 0;
 }
 
 /* The file is judged first: it is refused by its own number with all that a call may need, and with nothing. */
@@ -94,6 +104,9 @@ static void same_told(const char *what, const struct day *low, const struct told
     expect(memcmp(l->slip, m->slip, sizeof l->slip) == 0, "%s: the slip's text", what);
     expect(a->canonical.refusal == 0 && b->canonical.refusal == 0 && a->canonical.length == b->canonical.length, "%s: the form", what);
     expect(memcmp(l->canonical, m->canonical, sizeof l->canonical) == 0, "%s: the form's bytes", what);
+    expect(a->codes.refusal == 0 && b->codes.refusal == 0 && a->codes.length == b->codes.length, "%s: the codes' number", what);
+    expect(memcmp(l->codes, m->codes, sizeof l->codes) == 0, "%s: the codes", what);
+    expect(memcmp(l->codes_scratch, m->codes_scratch, sizeof l->codes_scratch) == 0, "%s: the codes' scratch", what);
 }
 
 /*

@@ -106,7 +106,7 @@ fn close(
 }
 
 // How many numbers the sheet needs: a mark for each group and each row.
-fn marks_of(layout: Layout) -> usize
+pub fn marks_of(layout: Layout) -> usize
     requires { ⌜ (layout .cards ≤ maxGroups) × (layout .shops ≤ maxGroups) × (layout .rows ≤ maxRows) ⌝ }
     ensures { λ r. ⌜ (r ≡ groupsOf layout + layout .rows) × (r ≤ 2 * maxGroups + maxRows) ⌝ }
 {

@@ -5,19 +5,19 @@
 --   labels-none labels-node labels-more fresh-none fresh-more    labels are given
 use mathlib.Core.Path.{_≡_, refl, sym, ap, subst, _∙_}
 use mathlib.Core.Logic.{_≢_, ⊎-elim}
+use mathlib.Core.Bool.{Bool}
 use mathlib.Core.List.{List}
 use Prim.Native.Nat.{ℕ, _+_, _-_, _≤_, _<_}
 use native.Mathlib.Decide.{ℕ-discrete}
 use native.Mathlib.Omega.{arith}
 use native.Mathlib.Nat.{le-refl}
-use Rattle.theory.specs.Residual.{Arc}
 use Rattle.theory.specs.Turn.{Puts}
 use Rattle.theory.proofs.TurnLaws.{puts-at}
 use Rattle.residual.specs.declared.Shape.{Shape}
-use Rattle.residual.specs.Map.{arcIn, labelOf, predOf, queueOf, spareOf, keptOf, labels, queues, span, Room, Put, OnlySearch}
+use Rattle.residual.specs.Map.{labelOf, predOf, queueOf, spareOf, keptOf, labels, queues, span, Room, Put, OnlySearch}
 use Rattle.residual.specs.View.{residualOf}
-use Rattle.residual.specs.Reach.{predIn, Spread, Reach, Done, Grew}
-use Rattle.residual.specs.Search.{ReachOf, Open, Scanned, Seeded, Asked, Searched, Reached, Newest, Next, Queued, Relabelled, Refreshed, Every}
+use Rattle.residual.specs.Reach.{Step, predIn, Spread, Reach, Done, Grew}
+use Rattle.residual.specs.Search.{ReachBy, Open, Scanned, Seeded, Asked, SearchedBy, Reached, Newest, Next, Queued, Relabelled, Refreshed, Every}
 use Rattle.residual.proofs.MapLaws.{keeps-none, keeps-then, keeps-more, put-keeps, room-keeps}
 use Rattle.residual.proofs.LabelLaws.{pred-puts, spread-none, spread-then, spread-puts, spread-stale}
 use Rattle.residual.proofs.ReachLaws.{reached-most, reach-later, reach-first, reach-swap, swap-early, swap-begin}
@@ -49,17 +49,17 @@ next-taken {sh} {t} {t′} {h} {n} {u} N =
     N
 
 -- n nodes are reached, and the first h of them are done
-pub record Going (sh : Shape) (ch sheet t₀ t : List ℕ) (n h : ℕ) : Type 0 where
+pub record Going (sh : Shape) (back : Bool) (ch sheet t₀ t : List ℕ) (n h : ℕ) : Type 0 where
   pub only : OnlySearch sh t₀ t
-  pub reach : ReachOf sh ch sheet t₀ t h n
+  pub reach : ReachBy sh back ch sheet t₀ t h n
   pub begin : queueOf sh t 0 ≡ queueOf sh t₀ 0
   pub spread : Spread (sh .fresh) (labelOf sh t₀) (labelOf sh t)
   pub high : h ≤ n
   pub one : h ≡ 0 → n ≡ 1
-  pub done : (i : ℕ) → i < h → Done (residualOf sh sheet t₀) (keptOf ch) (spareOf sh t₀) (sh .fresh) (labelOf sh t) (queueOf sh t i)
+  pub done : (i : ℕ) → i < h → Done back (residualOf sh sheet t₀) (keptOf ch) (spareOf sh t₀) (sh .fresh) (labelOf sh t) (queueOf sh t i)
 
-module _ {sh : Shape} {ch sheet t₀ : List ℕ} {target : ℕ} (B : Seeded sh ch sheet t₀ target) where
-  pub going-first : Going sh ch sheet t₀ t₀ 1 0
+module _ {sh : Shape} {back : Bool} {ch sheet t₀ : List ℕ} {target : ℕ} (B : Seeded sh back ch sheet t₀ target) where
+  pub going-first : Going sh back ch sheet t₀ t₀ 1 0
   going-first = record {
     only = keeps-none;
     reach = B .reach;
@@ -70,7 +70,7 @@ module _ {sh : Shape} {ch sheet t₀ : List ℕ} {target : ℕ} (B : Seeded sh c
     done = λ i l. absurd (omega arith);
   }
 
-  module _ {t : List ℕ} {n h : ℕ} (W : Going sh ch sheet t₀ t n h) where
+  module _ {t : List ℕ} {n h : ℕ} (W : Going sh back ch sheet t₀ t n h) where
     pub going-most : n ≤ sh .groups + 2
     going-most = omega (arith, W .reach .size, reached-most (predOf sh t) (sh .groups + 2))
 
@@ -80,7 +80,7 @@ module _ {sh : Shape} {ch sheet t₀ : List ℕ} {target : ℕ} (B : Seeded sh c
     pub going-queued : Queued sh t n
     going-queued = record { room = going-room; most = going-most; node = W .reach .node }
 
-    pub going-newest : {t′ : List ℕ} {u : ℕ} → h < n → Newest sh t t′ h n u → Going sh ch sheet t₀ t′ n h
+    pub going-newest : {t′ : List ℕ} {u : ℕ} → h < n → Newest sh t t′ h n u → Going sh back ch sheet t₀ t′ n h
     going-newest {t′} {u} l N =
         let q : ℕ → ℕ = queueOf sh t in
         let q′ : ℕ → ℕ = queueOf sh t′ in
@@ -89,24 +89,24 @@ module _ {sh : Shape} {ch sheet t₀ : List ℕ} {target : ℕ} (B : Seeded sh c
         record {
           only = keeps-then (W .only) (keeps-more (λ k e. omega arith) (N .only));
           reach =
-              subst (λ (f : ℕ → ℕ). Reach (residualOf sh sheet t₀) (keptOf ch) (spareOf sh t₀) (predIn (sh .fresh) f) q′ h n) (sym same) R;
+              subst (λ (f : ℕ → ℕ). Reach back (residualOf sh sheet t₀) (keptOf ch) (spareOf sh t₀) (predIn (sh .fresh) f) q′ h n) (sym same) R;
           begin = swap-begin q q′ h n l (W .one) (N .here) (N .there) (N .else) ∙ W .begin;
           spread = subst (λ (f : ℕ → ℕ). Spread (sh .fresh) (labelOf sh t₀) f) (sym same) (W .spread);
           high = W .high;
           one = W .one;
           done = λ i m.
-              subst (λ (f : ℕ → ℕ). Done (residualOf sh sheet t₀) (keptOf ch) (spareOf sh t₀) (sh .fresh) f (q′ i)) (sym same)
+              subst (λ (f : ℕ → ℕ). Done back (residualOf sh sheet t₀) (keptOf ch) (spareOf sh t₀) (sh .fresh) f (q′ i)) (sym same)
               (rw (swap-early q q′ h n l (W .one) (N .here) (N .there) (N .else) i m) (W .done i m));
         }
 
-    pub going-taken : {t′ : List ℕ} {u : ℕ} → h < n → Next sh t t′ h n u → Going sh ch sheet t₀ t′ n h
+    pub going-taken : {t′ : List ℕ} {u : ℕ} → h < n → Next sh t t′ h n u → Going sh back ch sheet t₀ t′ n h
     going-taken {t′} {u} l N =
         ⊎-elim
         (λ (M : Newest sh t t′ h n u). going-newest l M)
-        (λ (M : (t′ ≡ t) × (u ≡ queueOf sh t h)). subst (λ (x : List ℕ). Going sh ch sheet t₀ x n h) (sym (M .0)) W)
+        (λ (M : (t′ ≡ t) × (u ≡ queueOf sh t h)). subst (λ (x : List ℕ). Going sh back ch sheet t₀ x n h) (sym (M .0)) W)
         N
 
-    pub going-open : {u : ℕ} → h < n → u ≡ queueOf sh t h → Open sh ch sheet t u h n
+    pub going-open : {u : ℕ} → h < n → u ≡ queueOf sh t h → Open sh back ch sheet t u h n
     going-open l i = record {
       ready = same-ready sheet (W .only) (B .ready);
       free = B .free;
@@ -114,17 +114,18 @@ module _ {sh : Shape} {ch sheet t₀ : List ℕ} {target : ℕ} (B : Seeded sh c
       early = l;
       at = sym i;
       reach =
-          same-tables sheet (W .only) (λ x f. Reach x (keptOf ch) f (predOf sh t) (queueOf sh t) (h + 1) n)
-          (reach-later (residualOf sh sheet t₀) (keptOf ch) (spareOf sh t₀) (omega arith) (W .reach));
+          same-tables sheet (W .only) (λ x f. Reach back x (keptOf ch) f (predOf sh t) (queueOf sh t) (h + 1) n)
+          (reach-later back (residualOf sh sheet t₀) (keptOf ch) (spareOf sh t₀) (omega arith) (W .reach));
     }
 
     pub going-next :
-        {u n′ : ℕ} {t′ : List ℕ} → h < n → u ≡ queueOf sh t h → Scanned sh ch sheet t t′ u h n n′ Every →
-        Going sh ch sheet t₀ t′ n′ (h + 1)
+        {u n′ : ℕ} {t′ : List ℕ} → h < n → u ≡ queueOf sh t h → Scanned sh back ch sheet t t′ u h n n′ Every →
+        Going sh back ch sheet t₀ t′ n′ (h + 1)
     going-next {u} {n′} {t′} l i X =
         let b : ℕ = sh .fresh in
-        let G = tables-same sheet (W .only) (λ x f. Grew x (keptOf ch) f b (labelOf sh t) (queueOf sh t) n (labelOf sh t′) (queueOf sh t′) (h + 1) n′) (X .grew) in
-        let D = tables-same sheet (W .only) (λ x f. (e v : ℕ) → Every e → Arc x (keptOf ch) f e u v 0 → labelOf sh t′ v ≢ b) (X .done) in
+        let G = tables-same sheet (W .only)
+        (λ x f. Grew back x (keptOf ch) f b (labelOf sh t) (queueOf sh t) n (labelOf sh t′) (queueOf sh t′) (h + 1) n′) (X .grew) in
+        let D = tables-same sheet (W .only) (λ x f. (e v : ℕ) → Every e → Step back x (keptOf ch) f e u v → labelOf sh t′ v ≢ b) (X .done) in
         record {
           only = keeps-then (W .only) (X .only);
           reach = G .reach;
@@ -141,27 +142,23 @@ module _ {sh : Shape} {ch sheet t₀ : List ℕ} {target : ℕ} (B : Seeded sh c
               ];
         }
 
-    -- a target that is fresh no longer is reached
-    aimed : labelOf sh t target ≢ sh .fresh → predOf sh t target ≢ 0
-    aimed p z =
-        ⊎-elim
-        (λ (e : labelOf sh t target ≡ labelOf sh t₀ target). B .aim (λ y. p (e ∙ y)) (ap (arcIn (sh .fresh)) (sym e) ∙ z))
-        (λ w. omega (arith, w .1))
-        (W .spread target)
+    -- a target with another label than it had is reached
+    aimed : labelOf sh t target ≢ labelOf sh t₀ target → predOf sh t target ≢ 0
+    aimed p z = ⊎-elim (λ (e : labelOf sh t target ≡ labelOf sh t₀ target). p e) (λ w. omega (arith, w .1)) (W .spread target)
 
-    pub going-found : labelOf sh t target ≢ sh .fresh → Searched sh ch sheet t₀ t (queueOf sh t₀ 0) target n
+    pub going-found : labelOf sh t target ≢ labelOf sh t₀ target → SearchedBy sh back ch sheet t₀ t (queueOf sh t₀ 0) target n
     going-found p = record {
       only = W .only;
-      reach = reach-later (residualOf sh sheet t₀) (keptOf ch) (spareOf sh t₀) (W .high) (W .reach);
+      reach = reach-later back (residualOf sh sheet t₀) (keptOf ch) (spareOf sh t₀) (W .high) (W .reach);
       begin = W .begin;
       spread = W .spread;
       closed = λ z. absurd (aimed p z);
     }
 
-    pub going-end : n ≤ h → Searched sh ch sheet t₀ t (queueOf sh t₀ 0) target n
+    pub going-end : n ≤ h → SearchedBy sh back ch sheet t₀ t (queueOf sh t₀ 0) target n
     going-end l = record {
       only = W .only;
-      reach = reach-later (residualOf sh sheet t₀) (keptOf ch) (spareOf sh t₀) (W .high) (W .reach);
+      reach = reach-later back (residualOf sh sheet t₀) (keptOf ch) (spareOf sh t₀) (W .high) (W .reach);
       begin = W .begin;
       spread = W .spread;
       closed = λ z u m q e v A.
@@ -180,30 +177,28 @@ module _
     more : Puts (predOf sh t) (predOf sh t′) start (e + 1)
     more = pred-puts (sh .fresh) (labelOf sh t) (labelOf sh t′) start e l (B .label)
 
-    pub lit-seeded : Seeded sh ch sheet t′ target
-    lit-seeded = record {
+    pub lit-seeded : {back : Bool} → Seeded sh back ch sheet t′ target
+    lit-seeded {back} = record {
       ready = same-ready sheet (B .only) (Q .ready);
       free = Q .free;
       lists = same-lists sheet (B .only) (Q .lists);
       node = Q .target-node;
-      aim = λ n z. ⊎-elim
-          (λ w. omega (arith, more .here, ap (predOf sh t′) (w .0)))
-          (λ w. n (w .1 ∙ Q .target-fresh))
-          (puts-at (B .label) target);
       reach =
-          reach-first (residualOf sh sheet t′) (keptOf ch) (spareOf sh t′) (predOf sh t′) (queueOf sh t′) start (Q .start-node)
+          reach-first back (residualOf sh sheet t′) (keptOf ch) (spareOf sh t′) (predOf sh t′) (queueOf sh t′) start (Q .start-node)
           (omega (arith, more .here)) (λ v m n. more .else v n ∙ Q .dark v m) (B .queue .here);
     }
 
-    pub lit-searched : {t″ : List ℕ} {n : ℕ} → Searched sh ch sheet t′ t″ (queueOf sh t′ 0) target n → Searched sh ch sheet t t″ start target n
-    lit-searched {t″} {n} W = record {
+    pub lit-searched :
+        {back : Bool} {t″ : List ℕ} {n : ℕ} → SearchedBy sh back ch sheet t′ t″ (queueOf sh t′ 0) target n →
+        SearchedBy sh back ch sheet t t″ start target n
+    lit-searched {back} {t″} {n} W = record {
       only = keeps-then (B .only) (W .only);
-      reach = tables-same sheet (B .only) (λ x f. Reach x (keptOf ch) f (predOf sh t″) (queueOf sh t″) n n) (W .reach);
+      reach = tables-same sheet (B .only) (λ x f. Reach back x (keptOf ch) f (predOf sh t″) (queueOf sh t″) n n) (W .reach);
       begin = W .begin ∙ B .queue .here;
       spread =
           spread-then (sh .fresh) (labelOf sh t) (labelOf sh t′) (labelOf sh t″)
           (spread-puts (sh .fresh) (labelOf sh t) (labelOf sh t′) start e (Q .start-fresh) l (B .label)) (W .spread);
-      closed = λ z u m p. tables-same sheet (B .only) (λ x f. Done x (keptOf ch) f (sh .fresh) (labelOf sh t″) u) (W .closed z u m p);
+      closed = λ z u m p. tables-same sheet (B .only) (λ x f. Done back x (keptOf ch) f (sh .fresh) (labelOf sh t″) u) (W .closed z u m p);
     }
 
 --------------------------------------------------------------------------------

@@ -1,15 +1,15 @@
 -- Laws of the search in the buffers.
 --   same-tables tables-same same-ready same-lists    a search leaves the residual network and the lists
 --   reached-of             a node is reached
---   label-fits tried-of    a node is looked at
---   looking-most looked-tried looked-as up-node ends-below    one arc
+--   only-most label-fits tried-of    a node is looked at
+--   looking-most looked-tried pick-yes pick-no looked-by looked-as up-node ends-below    one arc
 --   scanned-none scanned-less scanned-look scanned-more scanned-items scanned-every open-on open-look    the arcs out of a node
 --   rising-told rising-none rising-card rising-shop scanned-all    its up arc, before the items or after them
 --   item-down item-row ends-card ends-shop at-shop    an item, as looking along it asks
 --   open-node along-first along-next along-open along-item along-end    the items, one after another
-use mathlib.Core.Path.{_≡_, refl, sym, ap, subst, _∙_}
+use mathlib.Core.Path.{_≡_, sym, ap, subst, _∙_}
 use mathlib.Core.Logic.{_⊎_, _≢_, inl, inr, ⊎-elim}
-use mathlib.Core.Bool.{Bool, true, false, _&&_, true≢false}
+use mathlib.Core.Bool.{Bool, true, false, not, _&&_, true≢false}
 use mathlib.Core.List.{List}
 use Prim.Native.Nat.{ℕ, _+_, _-_, _≤_, _<_}
 use native.Mathlib.Decide.{ℕ-discrete, decLt}
@@ -20,21 +20,21 @@ use borrow.Author.Tests.{eqb-true, eq-eqb, ltb-true, lt-ltb, le-leb}
 use Rattle.theory.specs.Bounds.{cellBound}
 use Rattle.theory.specs.Sum.{pick}
 use Rattle.theory.specs.Formed.{Formed}
-use Rattle.theory.specs.Residual.{Residual, Arc}
-use Rattle.theory.proofs.ResidualLaws.{one-head, card-below, shop-below, parent-below}
+use Rattle.theory.specs.Residual.{Residual}
+use Rattle.theory.proofs.ResidualLaws.{card-below, shop-below, parent-below}
 use Rattle.theory.proofs.TestLaws.{either, picked, and-true, true-and}
 use Rattle.theory.proofs.TurnLaws.{puts-same}
 use Rattle.residual.specs.declared.Shape.{Shape}
 use Rattle.residual.specs.Map.{labelOf, predOf, queueOf, spareOf, firstOf, cardOf, shopOf, parentOf, keptOf, labels, queues, spares, span, Few, Put, OnlySearch}
 use Rattle.residual.specs.View.{netOf, residualOf}
 use Rattle.residual.specs.State.{Priced, Ready}
-use Rattle.residual.specs.Items.{RowItem, ChildItem, Item, ItemArc, Least, Lists, arcAt}
-use Rattle.residual.specs.Reach.{Reach, Grew, Took, Passed}
+use Rattle.residual.specs.Items.{RowItem, ChildItem, Item, ItemArc, Least, Lists, arcAt, riseAt}
+use Rattle.residual.specs.Reach.{Step, Reach, Grew, Took, Passed}
 use Rattle.residual.specs.Search.{Looking, Looked, Open, Scanned, Rising, AtItem, Ends, Reached, Tried, Leads, Every}
 use Rattle.residual.proofs.MapLaws.{keeps-none, keeps-then, put-keeps, room-keeps, residual-same, table-small}
 use Rattle.residual.proofs.LabelLaws.{spread-stale}
 use Rattle.residual.proofs.ListLaws.{child-of, row-of, links-keep}
-use Rattle.residual.proofs.ReachLaws.{reached-most, arc-item, grew-none, grew-then, took-grew, passed-grew, item-shop}
+use Rattle.residual.proofs.ReachLaws.{reached-most, step-item, step-head, grew-none, grew-then, took-grew, passed-grew, item-shop}
 
 --------------------------------------------------------------------------------
 -- What a search leaves
@@ -131,8 +131,8 @@ module _ {sh : Shape} {ch sheet t : List ℕ} {n : ℕ} where
   looking-most L = omega (arith, L .count, reached-most (predOf sh t) (sh .groups + 2))
 
   pub looked-tried :
-      {t′ : List ℕ} {u v e n′ : ℕ} {b : Bool} → v < sh .groups + 2 → e + 1 < span → Leads sh ch sheet t e u v b →
-      Tried sh t t′ v e b n n′ → Looked sh ch sheet t t′ u e n n′
+      {back : Bool} {t′ : List ℕ} {u v e n′ : ℕ} {b : Bool} → v < sh .groups + 2 → e + 1 < span → Leads sh back ch sheet t e u v b →
+      Tried sh t t′ v e b n n′ → Looked sh back ch sheet t t′ u e n n′
   looked-tried {v = v} l m L T = record {
     only = T .only;
     step =
@@ -158,8 +158,22 @@ module _ {sh : Shape} {ch sheet t : List ℕ} {n : ℕ} where
         ];
   }
 
+-- what is picked
+pub pick-yes : {b : Bool} (x y : ℕ) → b ≡ true → x ≡ pick b x y
+pick-yes x y e = ap (λ (b : Bool). pick b x y) (sym e)
+
+pub pick-no : {b : Bool} (x y : ℕ) → b ≡ false → y ≡ pick b x y
+pick-no x y e = ap (λ (b : Bool). pick b x y) (sym e)
+
+-- where the number of the arc is picked by the direction
+pub looked-by :
+    {sh : Shape} {back : Bool} {ch sheet t t′ : List ℕ} {u v e f n n′ : ℕ} {b : Bool} → e ≡ f → v < sh .groups + 2 → e + 1 < span →
+    Leads sh back ch sheet t f u v b → Tried sh t t′ v e b n n′ → Looked sh back ch sheet t t′ u f n n′
+looked-by i l m L T = looked-tried l (rw i at m) L (rw i at T)
+
 pub looked-as :
-    {sh : Shape} {ch sheet t t′ : List ℕ} {u v e f n n′ : ℕ} → u ≡ v → e ≡ f → Looked sh ch sheet t t′ u e n n′ → Looked sh ch sheet t t′ v f n n′
+    {sh : Shape} {back : Bool} {ch sheet t t′ : List ℕ} {u v e f n n′ : ℕ} → u ≡ v → e ≡ f → Looked sh back ch sheet t t′ u e n n′ →
+    Looked sh back ch sheet t t′ v f n n′
 looked-as p q L = rw (p, q) at L
 
 -- where an arc leads
@@ -167,8 +181,8 @@ module _ {sh : Shape} {ch sheet t : List ℕ} {u v : ℕ} (R : Ready sh ch sheet
   pub up-node : u < sh .groups → v ≡ parentOf sh t u → v < sh .groups + 2
   up-node l i = rw i (parent-below (netOf sh t) (R .formed) u l)
 
-  pub ends-below : {c x : ℕ} → Ends sh t c u v x → v < sh .groups + 2
-  ends-below {c} E =
+  pub ends-below : {back : Bool} {c x : ℕ} → Ends sh back t c u v x → v < sh .groups + 2
+  ends-below {c = c} E =
       ⊎-elim
       (λ w. rw (w .1 .1) (shop-below (netOf sh t) (R .formed) c (E .row)))
       (λ w. rw (w .1 .1) (card-below (netOf sh t) (R .formed) c (E .row)))
@@ -177,90 +191,94 @@ module _ {sh : Shape} {ch sheet t : List ℕ} {u v : ℕ} (R : Ready sh ch sheet
 --------------------------------------------------------------------------------
 -- The arcs out of a node
 
-module _ {sh : Shape} {ch sheet t₀ : List ℕ} {u h n : ℕ} where
-  pub scanned-none : Open sh ch sheet t₀ u h n → Scanned sh ch sheet t₀ t₀ u h n n (λ e. ⊥)
+module _ {sh : Shape} {back : Bool} {ch sheet t₀ : List ℕ} {u h n : ℕ} where
+  pub scanned-none : Open sh back ch sheet t₀ u h n → Scanned sh back ch sheet t₀ t₀ u h n n (λ e. ⊥)
   scanned-none O = record {
     only = keeps-none;
-    grew = grew-none (residualOf sh sheet t₀) (keptOf ch) (spareOf sh t₀) (sh .fresh) (O .reach);
+    grew = grew-none back (residualOf sh sheet t₀) (keptOf ch) (spareOf sh t₀) (sh .fresh) (O .reach);
     done = λ e v k A. absurd k;
   }
 
   pub scanned-less :
       {t : List ℕ} {k : ℕ} {P Q : ℕ → Type 0} → ((e : ℕ) → Q e → P e) →
-      Scanned sh ch sheet t₀ t u h n k P → Scanned sh ch sheet t₀ t u h n k Q
+      Scanned sh back ch sheet t₀ t u h n k P → Scanned sh back ch sheet t₀ t u h n k Q
   scanned-less f W = record { only = W .only; grew = W .grew; done = λ e v i A. W .done e v (f e i) A }
 
   -- every open arc is the up arc or that of an item
   pub scanned-every :
-      {t : List ℕ} {k : ℕ} {P : ℕ → Type 0} → sh .free ≤ sh .rows → ((e : ℕ) → ((u < sh .groups) × (e ≡ sh .groups + sh .rows + u)) → P e) →
-      ((e : ℕ) → ItemArc (residualOf sh sheet t₀) u e → P e) → Scanned sh ch sheet t₀ t u h n k P → Scanned sh ch sheet t₀ t u h n k Every
+      {t : List ℕ} {k : ℕ} {P : ℕ → Type 0} → sh .free ≤ sh .rows →
+      ((e : ℕ) → ((u < sh .groups) × (e ≡ riseAt (netOf sh t₀) back u)) → P e) →
+      ((e : ℕ) → ItemArc (residualOf sh sheet t₀) back u e → P e) → Scanned sh back ch sheet t₀ t u h n k P →
+      Scanned sh back ch sheet t₀ t u h n k Every
   scanned-every free f g W = record {
     only = W .only;
     grew = W .grew;
     done = λ e v i A. ⊎-elim
         (λ d. W .done e v (f e d) A)
         (λ d. W .done e v (g e d) A)
-        (arc-item (residualOf sh sheet t₀) (keptOf ch) (spareOf sh t₀) free e u v A);
+        (step-item back (residualOf sh sheet t₀) (keptOf ch) (spareOf sh t₀) free e u v A);
   }
 
-  module _ (O : Open sh ch sheet t₀ u h n) {t : List ℕ} {k : ℕ} {P : ℕ → Type 0} (W : Scanned sh ch sheet t₀ t u h n k P) where
+  module _ (O : Open sh back ch sheet t₀ u h n) {t : List ℕ} {k : ℕ} {P : ℕ → Type 0} (W : Scanned sh back ch sheet t₀ t u h n k P) where
     -- the scan may go on from here
-    pub open-on : Open sh ch sheet t u h k
+    pub open-on : Open sh back ch sheet t u h k
     open-on = record {
       ready = same-ready sheet (W .only) (O .ready);
       free = O .free;
       lists = same-lists sheet (W .only) (O .lists);
       early = omega (arith, O .early, W .grew .grow);
       at = W .grew .keep h (O .early) ∙ O .at;
-      reach = same-tables sheet (W .only) (λ x f. Reach x (keptOf ch) f (predOf sh t) (queueOf sh t) (h + 1) k) (W .grew .reach);
+      reach = same-tables sheet (W .only) (λ x f. Reach back x (keptOf ch) f (predOf sh t) (queueOf sh t) (h + 1) k) (W .grew .reach);
     }
 
     pub open-look : Looking sh ch sheet t k
     open-look = record { ready = open-on .ready; count = W .grew .reach .size }
 
     pub scanned-look :
-        {t′ : List ℕ} {e k′ : ℕ} → Looked sh ch sheet t t′ u e k k′ → Scanned sh ch sheet t₀ t′ u h n k′ (λ f. P f ⊎ (f ≡ e))
+        {t′ : List ℕ} {e k′ : ℕ} → Looked sh back ch sheet t t′ u e k k′ → Scanned sh back ch sheet t₀ t′ u h n k′ (λ f. P f ⊎ (f ≡ e))
     scanned-look {t′} {e} {k′} L =
         let r : Residual = residualOf sh sheet t₀ in
         let b : ℕ = sh .fresh in
         ⊎-elim
-        (λ (T : Took r (keptOf ch) (spareOf sh t₀) b (labelOf sh t) (queueOf sh t) k (labelOf sh t′) (queueOf sh t′) k′ u e).
-        let g = took-grew r (keptOf ch) (spareOf sh t₀) b (W .grew .reach) (open-on .early) (open-on .at) T in
+        (λ (T : Took back r (keptOf ch) (spareOf sh t₀) b (labelOf sh t) (queueOf sh t) k (labelOf sh t′) (queueOf sh t′) k′ u e).
+        let g = took-grew back r (keptOf ch) (spareOf sh t₀) b (W .grew .reach) (open-on .early) (open-on .at) T in
         record {
           only = keeps-then (W .only) (L .only);
-          grew = grew-then r (keptOf ch) (spareOf sh t₀) b (W .grew) g;
+          grew = grew-then back r (keptOf ch) (spareOf sh t₀) b (W .grew) g;
           done = λ f v i A. ⊎-elim
               (λ (p : P f). spread-stale b (labelOf sh t) (labelOf sh t′) (g .spread) v (W .done f v p A))
               (λ (i : f ≡ e).
-              let j : v ≡ T .v = one-head r (keptOf ch) (spareOf sh t₀) e u u v (T .v) 0 0 (rw i at A) (T .arc) in
+              let j : v ≡ T .v = step-head back r (keptOf ch) (spareOf sh t₀) e u v (T .v) (rw i at A) (T .arc) in
               λ z. omega (arith, ap (labelOf sh t′) j, T .label-puts .here))
               i;
         })
-        (λ (T : Passed r (keptOf ch) (spareOf sh t₀) b (labelOf sh t) (queueOf sh t) k (labelOf sh t′) (queueOf sh t′) k′ u e).
-        let g = passed-grew r (keptOf ch) (spareOf sh t₀) b (W .grew .reach) T in
+        (λ (T : Passed back r (keptOf ch) (spareOf sh t₀) b (labelOf sh t) (queueOf sh t) k (labelOf sh t′) (queueOf sh t′) k′ u e).
+        let g = passed-grew back r (keptOf ch) (spareOf sh t₀) b (W .grew .reach) T in
         record {
           only = keeps-then (W .only) (L .only);
-          grew = grew-then r (keptOf ch) (spareOf sh t₀) b (W .grew) g;
+          grew = grew-then back r (keptOf ch) (spareOf sh t₀) b (W .grew) g;
           done = λ f v i A.
               spread-stale b (labelOf sh t) (labelOf sh t′) (g .spread) v
               (⊎-elim (λ (p : P f). W .done f v p A) (λ (i : f ≡ e). T .none v (rw i at A)) i);
         })
         (tables-same sheet (W .only)
         (λ x f.
-        Took x (keptOf ch) f b (labelOf sh t) (queueOf sh t) k (labelOf sh t′) (queueOf sh t′) k′ u e
-        ⊎ Passed x (keptOf ch) f b (labelOf sh t) (queueOf sh t) k (labelOf sh t′) (queueOf sh t′) k′ u e)
+        Took back x (keptOf ch) f b (labelOf sh t) (queueOf sh t) k (labelOf sh t′) (queueOf sh t′) k′ u e
+        ⊎ Passed back x (keptOf ch) f b (labelOf sh t) (queueOf sh t) k (labelOf sh t′) (queueOf sh t′) k′ u e)
         (L .step))
 
     -- and then along other arcs
     pub scanned-more :
-        {t′ : List ℕ} {k′ : ℕ} {Q : ℕ → Type 0} → Scanned sh ch sheet t t′ u h k k′ Q → Scanned sh ch sheet t₀ t′ u h n k′ (λ e. P e ⊎ Q e)
+        {t′ : List ℕ} {k′ : ℕ} {Q : ℕ → Type 0} → Scanned sh back ch sheet t t′ u h k k′ Q →
+        Scanned sh back ch sheet t₀ t′ u h n k′ (λ e. P e ⊎ Q e)
     scanned-more {t′} {k′} {Q} X =
         let b : ℕ = sh .fresh in
-        let G = tables-same sheet (W .only) (λ x f. Grew x (keptOf ch) f b (labelOf sh t) (queueOf sh t) k (labelOf sh t′) (queueOf sh t′) (h + 1) k′) (X .grew) in
-        let D = tables-same sheet (W .only) (λ x f. (e v : ℕ) → Q e → Arc x (keptOf ch) f e u v 0 → labelOf sh t′ v ≢ b) (X .done) in
+        let G = tables-same sheet (W .only)
+        (λ x f. Grew back x (keptOf ch) f b (labelOf sh t) (queueOf sh t) k (labelOf sh t′) (queueOf sh t′) (h + 1) k′) (X .grew) in
+        let D = tables-same sheet (W .only) (λ x f. (e v : ℕ) → Q e → Step back x (keptOf ch) f e u v → labelOf sh t′ v ≢ b) (X .done) in
         record {
           only = keeps-then (W .only) (X .only);
-          grew = grew-then (residualOf sh sheet t₀) (keptOf ch) (spareOf sh t₀) b (W .grew) G;
+          grew = grew-then back (residualOf sh sheet t₀) (keptOf ch) (spareOf sh t₀) b (W .grew) G;
           done = λ e v i A. ⊎-elim
               (λ p. spread-stale b (labelOf sh t) (labelOf sh t′) (G .spread) v (W .done e v p A))
               (λ p. D e v p A)
@@ -269,32 +287,36 @@ module _ {sh : Shape} {ch sheet t₀ : List ℕ} {u h n : ℕ} where
 
     -- and then along the items
     pub scanned-items :
-        {t′ : List ℕ} {k′ : ℕ} → Scanned sh ch sheet t t′ u h k k′ (ItemArc (residualOf sh sheet t) u) →
-        Scanned sh ch sheet t₀ t′ u h n k′ (λ e. P e ⊎ ItemArc (residualOf sh sheet t₀) u e)
+        {t′ : List ℕ} {k′ : ℕ} → Scanned sh back ch sheet t t′ u h k k′ (ItemArc (residualOf sh sheet t) back u) →
+        Scanned sh back ch sheet t₀ t′ u h n k′ (λ e. P e ⊎ ItemArc (residualOf sh sheet t₀) back u e)
     scanned-items {t′} {k′} X =
-        scanned-more (tables-same sheet (W .only) (λ x f. Scanned sh ch sheet t t′ u h k k′ (ItemArc x u)) X)
+        scanned-more (tables-same sheet (W .only) (λ x f. Scanned sh back ch sheet t t′ u h k k′ (ItemArc x back u)) X)
 
 pub rising-shop : (sh : Shape) (u : ℕ) → (leb (sh .cards) u && ltb u (sh .groups)) ≡ true → u < sh .groups
 rising-shop sh u h = ltb-true u (sh .groups) (and-true (leb (sh .cards) u) (ltb u (sh .groups)) h .1)
 
-module _ {sh : Shape} {ch sheet t₀ : List ℕ} {u h n : ℕ} where
+module _ {sh : Shape} {back : Bool} {ch sheet t₀ : List ℕ} {u h n : ℕ} where
   pub rising-told :
-      {t : List ℕ} {k : ℕ} {b : Bool} → Open sh ch sheet t₀ u h n → Looked sh ch sheet t₀ t u (sh .groups + sh .rows + u) n k →
-      Scanned sh ch sheet t₀ t u h n k (Rising sh u b)
+      {t : List ℕ} {k : ℕ} {b : Bool} → Open sh back ch sheet t₀ u h n →
+      Looked sh back ch sheet t₀ t u (riseAt (netOf sh t₀) back u) n k →
+      Scanned sh back ch sheet t₀ t u h n k (Rising sh back u b)
   rising-told O L = scanned-less (λ e i. inr (i .1)) (scanned-look O (scanned-none O) L)
 
-  pub rising-none : {b : Bool} → b ≡ false → Open sh ch sheet t₀ u h n → Scanned sh ch sheet t₀ t₀ u h n n (Rising sh u b)
+  pub rising-none :
+      {b : Bool} → b ≡ false → Open sh back ch sheet t₀ u h n → Scanned sh back ch sheet t₀ t₀ u h n n (Rising sh back u b)
   rising-none z O = scanned-less (λ e i. true≢false (sym (i .0) ∙ z)) (scanned-none O)
 
-  pub rising-card : Open sh ch sheet t₀ u h n → ltb u (sh .cards) ≡ true → u < sh .groups
+  pub rising-card : Open sh back ch sheet t₀ u h n → ltb u (sh .cards) ≡ true → u < sh .groups
   rising-card O y = omega (arith, ltb-true u (sh .cards) y, O .ready .formed .sides)
 
   -- the up arc is looked along at a card or at a shop
   pub scanned-all :
       {t : List ℕ} {k : ℕ} → sh .free ≤ sh .rows →
-      Scanned sh ch sheet t₀ t u h n k
-      (λ e. (Rising sh u (ltb u (sh .cards)) e ⊎ ItemArc (residualOf sh sheet t₀) u e) ⊎ Rising sh u (leb (sh .cards) u && ltb u (sh .groups)) e) →
-      Scanned sh ch sheet t₀ t u h n k Every
+      Scanned sh back ch sheet t₀ t u h n k
+      (λ e.
+      (Rising sh back u (ltb u (sh .cards)) e ⊎ ItemArc (residualOf sh sheet t₀) back u e)
+      ⊎ Rising sh back u (leb (sh .cards) u && ltb u (sh .groups)) e) →
+      Scanned sh back ch sheet t₀ t u h n k Every
   scanned-all free W =
       scanned-every free
       (λ e i.
@@ -319,26 +341,26 @@ module _ {sh : Shape} {sheet t : List ℕ} {u j : ℕ} (A : AtItem sh sheet t u 
   item-row l at = (A .live, record { row = l; at = at; even = row-of (residualOf sh sheet t) l (A .item) .even })
 
   module _ {a b : ℕ} (l : j < sh .rows) (ca : a ≡ cardOf sh t j) (sb : b ≡ shopOf sh t j) where
-    pub ends-card : Ends sh t j a b 0
-    ends-card = record { row = l; ends = inl (refl, (ca, sb)) }
+    pub ends-card : {back : Bool} {x : ℕ} → x ≡ pick back 1 0 → Ends sh back t j a b x
+    ends-card i = record { row = l; ends = inl (i, (ca, sb)) }
 
-    pub ends-shop : Ends sh t j b a 1
-    ends-shop = record { row = l; ends = inr (refl, (sb, ca)) }
+    pub ends-shop : {back : Bool} {x : ℕ} → x ≡ pick (not back) 1 0 → Ends sh back t j b a x
+    ends-shop i = record { row = l; ends = inr (i, (sb, ca)) }
 
     pub at-shop : a ≢ u → b ≡ u
     at-shop n = sb ∙ item-shop (residualOf sh sheet t) u j (A .item) l (λ z. n (ca ∙ z))
 
 -- the scan stands at item j: those before it in the list of u are done
-pub record Along (sh : Shape) (ch sheet t₀ : List ℕ) (u h n : ℕ) (t : List ℕ) (j k : ℕ) : Type 0 where
+pub record Along (sh : Shape) (back : Bool) (ch sheet t₀ : List ℕ) (u h n : ℕ) (t : List ℕ) (j k : ℕ) : Type 0 where
   pub item : j < sh .rows + sh .groups → Item (residualOf sh sheet t₀) u j
   pub live : sh .free ≤ j
-  pub scan : Scanned sh ch sheet t₀ t u h n k (λ e. (w : ItemArc (residualOf sh sheet t₀) u e) × (w .j < j))
+  pub scan : Scanned sh back ch sheet t₀ t u h n k (λ e. (w : ItemArc (residualOf sh sheet t₀) back u e) × (w .j < j))
 
-module _ {sh : Shape} {ch sheet t₀ : List ℕ} {u h n : ℕ} (O : Open sh ch sheet t₀ u h n) where
+module _ {sh : Shape} {back : Bool} {ch sheet t₀ : List ℕ} {u h n : ℕ} (O : Open sh back ch sheet t₀ u h n) where
   pub open-node : u < sh .groups + 2
   open-node = omega (arith, O .at, O .reach .node h (O .early))
 
-  pub along-first : {j : ℕ} → j ≡ firstOf sh t₀ u → Along sh ch sheet t₀ u h n t₀ j n
+  pub along-first : {j : ℕ} → j ≡ firstOf sh t₀ u → Along sh back ch sheet t₀ u h n t₀ j n
   along-first {j} i =
       let M : Least (residualOf sh sheet t₀) u (sh .free) j = rw i (O .lists .at-first u open-node) in
       record {
@@ -347,10 +369,10 @@ module _ {sh : Shape} {ch sheet t₀ : List ℕ} {u h n : ℕ} (O : Open sh ch s
         scan = scanned-less (λ e w. M .none (w .0 .j) (w .0 .live) (w .1) (w .0 .item)) (scanned-none O);
       }
 
-  module _ {t : List ℕ} {j k : ℕ} (A : Along sh ch sheet t₀ u h n t j k) where
+  module _ {t : List ℕ} {j k : ℕ} (A : Along sh back ch sheet t₀ u h n t j k) where
     pub along-next :
-        {t′ : List ℕ} {k′ j′ : ℕ} → Looked sh ch sheet t t′ u (arcAt (netOf sh t) j) k k′ →
-        Least (residualOf sh sheet t′) u (j + 1) j′ → Along sh ch sheet t₀ u h n t′ j′ k′
+        {t′ : List ℕ} {k′ j′ : ℕ} → Looked sh back ch sheet t t′ u (arcAt (netOf sh t) back j) k k′ →
+        Least (residualOf sh sheet t′) u (j + 1) j′ → Along sh back ch sheet t₀ u h n t′ j′ k′
     along-next {j′ = j′} L M =
         let W = scanned-look O (A .scan) L in
         let N : Least (residualOf sh sheet t₀) u (j + 1) j′ = tables-same sheet (W .only) (λ x f. Least x u (j + 1) j′) M in
@@ -364,14 +386,14 @@ module _ {sh : Shape} {ch sheet t₀ : List ℕ} {u h n : ℕ} (O : Open sh ch s
                 | yes l ↦ inl (w .0, l)
                 | no l ↦
                     elim (ℕ-discrete (w .0 .j) j) [
-                      | yes i ↦ inr (w .0 .code ∙ ap (arcAt (netOf sh t₀)) i)
+                      | yes i ↦ inr (w .0 .code ∙ ap (arcAt (netOf sh t₀) back) i)
                       | no i ↦ absurd (N .none (w .0 .j) (omega arith) (w .1) (w .0 .item))
                     ]
               ])
               W;
         }
 
-    pub along-end : sh .rows + sh .groups ≤ j → Scanned sh ch sheet t₀ t u h n k (ItemArc (residualOf sh sheet t₀) u)
+    pub along-end : sh .rows + sh .groups ≤ j → Scanned sh back ch sheet t₀ t u h n k (ItemArc (residualOf sh sheet t₀) back u)
     along-end l =
         scanned-less
         (λ e w. (w, ⊎-elim (λ R. omega (arith, R .row)) (λ C. omega (arith, C .group, C .code)) (w .item)))
@@ -391,6 +413,6 @@ module _ {sh : Shape} {ch sheet t₀ : List ℕ} {u h n : ℕ} (O : Open sh ch s
     along-open l = at-item l (A .scan .only)
 
     pub along-item :
-        {t′ : List ℕ} {k′ : ℕ} → j < sh .rows + sh .groups → Looked sh ch sheet t t′ u (arcAt (netOf sh t) j) k k′ →
+        {t′ : List ℕ} {k′ : ℕ} → j < sh .rows + sh .groups → Looked sh back ch sheet t t′ u (arcAt (netOf sh t) back j) k k′ →
         AtItem sh sheet t′ u j
     along-item l L = at-item l (keeps-then (A .scan .only) (L .only))

@@ -1,9 +1,11 @@
 -- The items of a node, in lists: its rows and its children, the rows first. Item j < rows is row j, and item rows + v is child v. Only
 -- items of slack 0 are listed, so the lists are built anew where prices change; and a row leaves its lists when it is placed.
---   arcAt d j              the arc of item j: down to the child, or the row
+--   riseAt d back u        the arc up from u; where `back` holds, the arc down to u
+--   fallAt d back v        the arc down to v; where `back` holds, the arc up from v
+--   arcAt d back j         the arc of item j: down to the child, or the row; where `back` holds, up from the child, or the row
 --   RowItem r u j, ChildItem r u j    item j is a row that hangs at node u, or a child of u, and has slack 0
 --   Item r u j             item j hangs at node u and has slack 0
---   ItemArc r u e          arc e is that of an item of node u, and no row that is placed
+--   ItemArc r back u e     arc e is that of an item of node u, and no row that is placed
 --   Least r u lo k         k is the least item from lo on at u, or rows + groups where there is none
 --   Linked r first child card shop lo    the lists of the items from lo on: the first of each node, and the next one after each
 --   LinksOf sh sheet t t′ lo    the lists of t′ over the residual network of t
@@ -34,8 +36,14 @@ use Rattle.residual.specs.Map.{table, firstOf, afterChildOf, afterCardOf
 use Rattle.residual.specs.View.{netOf, residualOf}
 use Rattle.residual.specs.State.{highest}
 
-abbrev pub arcAt : Network → ℕ → ℕ
-arcAt d j = pick (ltb j (d .rows)) (d .groups + j) (j - d .rows)
+abbrev pub riseAt : Network → Bool → ℕ → ℕ
+riseAt d back u = pick back u (d .groups + d .rows + u)
+
+abbrev pub fallAt : Network → Bool → ℕ → ℕ
+fallAt d back v = pick back (d .groups + d .rows + v) v
+
+abbrev pub arcAt : Network → Bool → ℕ → ℕ
+arcAt d back j = pick (ltb j (d .rows)) (d .groups + j) (fallAt d back (j - d .rows))
 
 module _ (r : Residual) where
   pub record RowItem (u j : ℕ) : Type 0 where
@@ -53,11 +61,11 @@ module _ (r : Residual) where
   abbrev pub Item : ℕ → ℕ → Type 0
   Item u j = RowItem u j ⊎ ChildItem u j
 
-  pub record ItemArc (u e : ℕ) : Type 0 where
+  pub record ItemArc (back : Bool) (u e : ℕ) : Type 0 where
     pub j : ℕ
     pub item : Item u j
     pub live : r .free ≤ j
-    pub code : e ≡ arcAt (r .net) j
+    pub code : e ≡ arcAt (r .net) back j
 
   pub record Least (u lo k : ℕ) : Type 0 where
     pub low : lo ≤ k

@@ -1,55 +1,72 @@
--- What the functions of the search ask and promise. A search changes label and queue alone.
---   ReachOf sh ch sheet t t′ h n   in t′ the reached nodes of the residual network of t
---   Looked sh ch sheet t t′ u e n n′   arc e out of u was looked along
+-- What the functions of the search ask and promise. A search changes label and queue alone. It goes along open arcs, or against them where
+-- `back` holds: a step from u to v is by an open arc from u to v, or from v to u.
+--   ReachBy sh back ch sheet t t′ h n   in t′ the nodes that are reached by steps of the residual network of t
+--   ReachOf sh ch sheet t t′ h n   the same along open arcs
+--   Looked sh back ch sheet t t′ u e n n′   the step of arc e from u was looked along
 --   AtItem sh sheet t u j      item j stands in the list of u, and the lists stand
 --   Reached sh t t′ v e n      node v was reached by arc e, in place n
 --   Tried sh t t′ v e b n n′   node v was reached by arc e, in place n, where b says that the arc is open and v was fresh; else no
 --                              label changed, and of the queue at most what lies past its n places
---   Leads sh ch sheet t e u v b    b says whether arc e is an open arc from u to v; from u it leads to no other node
+--   Leads sh back ch sheet t e u v b   b says whether arc e is a step from u to v; from u it leads to no other node
 --   Looking sh ch sheet t n    what looking along an arc asks, where n nodes are reached
---   Ends sh t c u v x          row c leads from u to v where its byte in the choice is x
---   Open sh ch sheet t u h n   what a scan of node u asks: u stands in place h of the queue
---   Scanned sh ch sheet t t′ u h n n′ P  no open arc of P out of u leads to a fresh node
---   Rising sh u b e            e is the up arc of u, and b holds
+--   Ends sh back t c u v x     row c is a step from u to v where its byte in the choice is x
+--   Open sh back ch sheet t u h n   what a scan of node u asks: u stands in place h of the queue
+--   Scanned sh back ch sheet t t′ u h n n′ P  no step by an arc of P from u leads to a fresh node
+--   Rising sh back u b e       e is the arc of a step from u to its parent, and b holds
 --   Every e                    e is any arc
 --   Newest sh t t′ h n r       the nodes in place h and in the last of n places of the queue were swapped, and r is now in place h
 --   Next sh t t′ h n r         so, or nothing changed; r is now in place h
---   Seeded sh ch sheet t target    what the queue asks
---   Asked sh ch sheet t start target   what a search asks: start and target are fresh, and no node is reached
---   Searched sh ch sheet t t′ start target n   what it promises: n nodes are reached, the first of them the start, each other by an
---                              open arc from one before it, and each was fresh; where the target is not reached, no open arc leads
---                              from a reached node to a fresh one. Node v is reached exactly where `predOf sh t′ v` is above 0
+--   Seeded sh back ch sheet t target   what the queue asks
+--   Asked sh ch sheet t start target   what a search asks: the start is fresh, and no node is reached. Where the target is not fresh,
+--                              it is not reached, and the search goes to its end
+--   SearchedBy sh back ch sheet t t′ start target n   what it promises: n nodes are reached, the first of them the start, each other by
+--                              a step from one before it, and each was fresh; where the target is not reached, no step leads from a
+--                              reached node to a fresh one. Node v is reached exactly where `predOf sh t′ v` is above 0
+--   Searched sh ch sheet t t′ start target n   the same along open arcs
 --   Queued sh t n              the first n places of the queue hold nodes
 --   Relabelled sh t t′ n x     the nodes in the first n places of the queue have the label x, and the others the old one
 --   Refreshed sh t t′ m        the nodes below m are fresh
 use mathlib.Core.Path.{_≡_}
 use mathlib.Core.Logic.{_⊎_, _≢_}
-use mathlib.Core.Bool.{Bool, true}
+use mathlib.Core.Bool.{Bool, true, false, not}
 use mathlib.Core.List.{List}
 use Prim.Native.Nat.{ℕ, _+_, _-_, _≤_, _<_}
-use Rattle.theory.specs.Residual.{Arc}
+use Rattle.theory.specs.Sum.{pick}
 use Rattle.theory.specs.Turn.{Puts}
 use Rattle.residual.specs.declared.Shape.{Shape}
 use Rattle.residual.specs.Map.{labelOf, predOf, queueOf, spareOf, cardOf, shopOf, keptOf, queues, Room, Keeps, OnlySearch, OnlyLabels}
 use Rattle.residual.specs.View.{residualOf}
 use Rattle.residual.specs.State.{Ready}
 use Rattle.residual.specs.Items.{Item, Lists}
-use Rattle.residual.specs.Reach.{reached, Spread, Reach, Done, Grew, Took, Passed}
+use Rattle.residual.specs.Reach.{Step, reached, Spread, Reach, Done, Grew, Took, Passed}
 
+abbrev pub ReachBy : Shape → Bool → List ℕ → List ℕ → List ℕ → List ℕ → ℕ → ℕ → Type 0
+ReachBy sh back ch sheet t t′ h n = Reach back (residualOf sh sheet t) (keptOf ch) (spareOf sh t) (predOf sh t′) (queueOf sh t′) h n
+
+-- along open arcs
 abbrev pub ReachOf : Shape → List ℕ → List ℕ → List ℕ → List ℕ → ℕ → ℕ → Type 0
-ReachOf sh ch sheet t t′ h n = Reach (residualOf sh sheet t) (keptOf ch) (spareOf sh t) (predOf sh t′) (queueOf sh t′) h n
+ReachOf sh ch sheet t t′ h n = ReachBy sh false ch sheet t t′ h n
 
-module _ (sh : Shape) (ch sheet t : List ℕ) where
-  pub record Looking (n : ℕ) : Type 0 where
-    pub ready : Ready sh ch sheet t
-    pub count : n ≡ reached (predOf sh t) (sh .groups + 2)
+pub record Looking (sh : Shape) (ch sheet t : List ℕ) (n : ℕ) : Type 0 where
+  pub ready : Ready sh ch sheet t
+  pub count : n ≡ reached (predOf sh t) (sh .groups + 2)
 
+pub record Asked (sh : Shape) (ch sheet t : List ℕ) (start target : ℕ) : Type 0 where
+  pub ready : Ready sh ch sheet t
+  pub free : sh .free ≤ sh .rows
+  pub lists : Lists sh sheet t
+  pub start-node : start < sh .groups + 2
+  pub target-node : target < sh .groups + 2
+  pub start-fresh : labelOf sh t start ≡ sh .fresh
+  pub dark : (v : ℕ) → v < sh .groups + 2 → predOf sh t v ≡ 0
+
+module _ (sh : Shape) (back : Bool) (ch sheet t : List ℕ) where
   pub record Looked (t′ : List ℕ) (u e n n′ : ℕ) : Type 0 where
     pub only : OnlySearch sh t t′
     pub step :
-        Took (residualOf sh sheet t) (keptOf ch) (spareOf sh t) (sh .fresh) (labelOf sh t) (queueOf sh t) n (labelOf sh t′) (queueOf sh t′)
+        Took back (residualOf sh sheet t) (keptOf ch) (spareOf sh t) (sh .fresh) (labelOf sh t) (queueOf sh t) n (labelOf sh t′) (queueOf sh t′)
         n′ u e
-        ⊎ Passed (residualOf sh sheet t) (keptOf ch) (spareOf sh t) (sh .fresh) (labelOf sh t) (queueOf sh t) n (labelOf sh t′)
+        ⊎ Passed back (residualOf sh sheet t) (keptOf ch) (spareOf sh t) (sh .fresh) (labelOf sh t) (queueOf sh t) n (labelOf sh t′)
         (queueOf sh t′) n′ u e
 
   pub record Open (u h n : ℕ) : Type 0 where
@@ -58,42 +75,35 @@ module _ (sh : Shape) (ch sheet t : List ℕ) where
     pub lists : Lists sh sheet t
     pub early : h < n
     pub at : queueOf sh t h ≡ u
-    pub reach : ReachOf sh ch sheet t t (h + 1) n
+    pub reach : ReachBy sh back ch sheet t t (h + 1) n
 
   pub record Scanned (t′ : List ℕ) (u h n n′ : ℕ) (P : ℕ → Type 0) : Type 0 where
     pub only : OnlySearch sh t t′
     pub grew :
-        Grew (residualOf sh sheet t) (keptOf ch) (spareOf sh t) (sh .fresh) (labelOf sh t) (queueOf sh t) n (labelOf sh t′) (queueOf sh t′)
+        Grew back (residualOf sh sheet t) (keptOf ch) (spareOf sh t) (sh .fresh) (labelOf sh t) (queueOf sh t) n (labelOf sh t′) (queueOf sh t′)
         (h + 1) n′
     pub done :
-        (e v : ℕ) → P e → Arc (residualOf sh sheet t) (keptOf ch) (spareOf sh t) e u v 0 → labelOf sh t′ v ≢ sh .fresh
+        (e v : ℕ) → P e → Step back (residualOf sh sheet t) (keptOf ch) (spareOf sh t) e u v → labelOf sh t′ v ≢ sh .fresh
 
   pub record Seeded (target : ℕ) : Type 0 where
     pub ready : Ready sh ch sheet t
     pub free : sh .free ≤ sh .rows
     pub lists : Lists sh sheet t
     pub node : target < sh .groups + 2
-    pub aim : labelOf sh t target ≢ sh .fresh → predOf sh t target ≢ 0
-    pub reach : ReachOf sh ch sheet t t 0 1
+    pub reach : ReachBy sh back ch sheet t t 0 1
 
-  pub record Asked (start target : ℕ) : Type 0 where
-    pub ready : Ready sh ch sheet t
-    pub free : sh .free ≤ sh .rows
-    pub lists : Lists sh sheet t
-    pub start-node : start < sh .groups + 2
-    pub target-node : target < sh .groups + 2
-    pub start-fresh : labelOf sh t start ≡ sh .fresh
-    pub target-fresh : labelOf sh t target ≡ sh .fresh
-    pub dark : (v : ℕ) → v < sh .groups + 2 → predOf sh t v ≡ 0
-
-  pub record Searched (t′ : List ℕ) (start target n : ℕ) : Type 0 where
+  pub record SearchedBy (t′ : List ℕ) (start target n : ℕ) : Type 0 where
     pub only : OnlySearch sh t t′
-    pub reach : ReachOf sh ch sheet t t′ n n
+    pub reach : ReachBy sh back ch sheet t t′ n n
     pub begin : queueOf sh t′ 0 ≡ start
     pub spread : Spread (sh .fresh) (labelOf sh t) (labelOf sh t′)
     pub closed :
         predOf sh t′ target ≡ 0 → (u : ℕ) → u < sh .groups + 2 → 0 < predOf sh t′ u →
-        Done (residualOf sh sheet t) (keptOf ch) (spareOf sh t) (sh .fresh) (labelOf sh t′) u
+        Done back (residualOf sh sheet t) (keptOf ch) (spareOf sh t) (sh .fresh) (labelOf sh t′) u
+
+-- a search along open arcs
+abbrev pub Searched : Shape → List ℕ → List ℕ → List ℕ → List ℕ → ℕ → ℕ → ℕ → Type 0
+Searched sh ch sheet t t′ start target n = SearchedBy sh false ch sheet t t′ start target n
 
 pub record AtItem (sh : Shape) (sheet t : List ℕ) (u j : ℕ) : Type 0 where
   pub room : Room sh t
@@ -102,11 +112,12 @@ pub record AtItem (sh : Shape) (sheet t : List ℕ) (u j : ℕ) : Type 0 where
   pub live : sh .free ≤ j
   pub low : j < sh .rows + sh .groups
 
--- row c leads from its card node where it is left out, and from its shop node where it is kept
-pub record Ends (sh : Shape) (t : List ℕ) (c u v x : ℕ) : Type 0 where
+-- row c leads from its card node where it is left out, and from its shop node where it is kept; against its arc it is the other way
+pub record Ends (sh : Shape) (back : Bool) (t : List ℕ) (c u v x : ℕ) : Type 0 where
   pub row : c < sh .rows
   pub ends :
-      ((x ≡ 0) × ((u ≡ cardOf sh t c) × (v ≡ shopOf sh t c))) ⊎ ((x ≡ 1) × ((u ≡ shopOf sh t c) × (v ≡ cardOf sh t c)))
+      ((x ≡ pick back 1 0) × ((u ≡ cardOf sh t c) × (v ≡ shopOf sh t c)))
+      ⊎ ((x ≡ pick (not back) 1 0) × ((u ≡ shopOf sh t c) × (v ≡ cardOf sh t c)))
 
 pub record Reached (sh : Shape) (t t′ : List ℕ) (v e n : ℕ) : Type 0 where
   pub only : OnlySearch sh t t′
@@ -121,9 +132,9 @@ pub record Tried (sh : Shape) (t t′ : List ℕ) (v e : ℕ) (b : Bool) (n n′
       × (Puts (labelOf sh t) (labelOf sh t′) v (sh .fresh + e + 1) × (n′ ≡ n + 1)))
       ⊎ ((b ≡ true → labelOf sh t v ≢ sh .fresh) × ((labelOf sh t′ ≡ labelOf sh t) × (n′ ≡ n)))
 
-pub record Leads (sh : Shape) (ch sheet t : List ℕ) (e u v : ℕ) (b : Bool) : Type 0 where
-  pub yes : b ≡ true → Arc (residualOf sh sheet t) (keptOf ch) (spareOf sh t) e u v 0
-  pub only : (w : ℕ) → Arc (residualOf sh sheet t) (keptOf ch) (spareOf sh t) e u w 0 → (b ≡ true) × (w ≡ v)
+pub record Leads (sh : Shape) (back : Bool) (ch sheet t : List ℕ) (e u v : ℕ) (b : Bool) : Type 0 where
+  pub yes : b ≡ true → Step back (residualOf sh sheet t) (keptOf ch) (spareOf sh t) e u v
+  pub only : (w : ℕ) → Step back (residualOf sh sheet t) (keptOf ch) (spareOf sh t) e u w → (b ≡ true) × (w ≡ v)
 
 pub record Newest (sh : Shape) (t t′ : List ℕ) (h n r : ℕ) : Type 0 where
   pub only : Keeps sh (λ l. l ≡ queues) t t′
@@ -150,9 +161,9 @@ pub record Refreshed (sh : Shape) (t t′ : List ℕ) (m : ℕ) : Type 0 where
   pub only : OnlyLabels sh t t′
   pub fresh : (v : ℕ) → v < m → labelOf sh t′ v ≡ sh .fresh
 
--- the up arc of u, where b holds
-abbrev pub Rising : Shape → ℕ → Bool → ℕ → Type 0
-Rising sh u b e = (b ≡ true) × (e ≡ sh .groups + sh .rows + u)
+-- the step from u to its parent, where b holds
+abbrev pub Rising : Shape → Bool → ℕ → Bool → ℕ → Type 0
+Rising sh back u b e = (b ≡ true) × (e ≡ pick back u (sh .groups + sh .rows + u))
 
 abbrev pub Every : ℕ → Type 0
 Every e = e ≤ e

@@ -1,18 +1,22 @@
-// The search: which fresh nodes can be reached from a start by open arcs. It changes label and queue alone.
+// The search: which fresh nodes can be reached from a start by open arcs, or from which the start can be reached. It changes label and
+// queue alone.
+//
+// A step goes along an open arc, or against it where `back` holds. What looks along one arc has the direction as a parameter; the loop
+// through the queue is written for each of them, so that no test of the direction is left in it.
 //
 // A node is fresh where its label is the shape's. The arcs out of a node are looked along in such an order that the way to the other
 // side of the network comes last at a card node, and the way up comes last at a shop node: most paths from the source to the sink are
 // found early so, where the newest node is gone on from first.
 ghost use mathlib.Core.Path.{_≡_};
-ghost use mathlib.Core.Bool.{true};
+ghost use mathlib.Core.Bool.{true, false};
 ghost use Prim.Native.Nat.{_+_, _≤_, _<_};
 ghost use lib.ListN.{length};
 ghost use Rattle.theory.specs.Bounds.{cellBound};
 ghost use Rattle.residual.specs.Map.{parentOf, priceOf, queueOf, span, Room};
 ghost use Rattle.residual.specs.View.{netOf, residualOf};
 ghost use Rattle.residual.specs.State.{Ready};
-ghost use Rattle.residual.specs.Items.{RowItem, ChildItem, ItemArc, Least, arcAt};
-ghost use Rattle.residual.specs.Search.{Reached, Tried, Leads, Looking, Looked, Ends, AtItem, Open, Scanned, Rising, Every, Newest, Next, Seeded, Asked, Searched, Queued, Relabelled, Refreshed};
+ghost use Rattle.residual.specs.Items.{RowItem, ChildItem, ItemArc, Least, riseAt, fallAt, arcAt};
+ghost use Rattle.residual.specs.Search.{Reached, Tried, Leads, Looking, Looked, Ends, AtItem, Open, Scanned, Rising, Every, Newest, Next, Seeded, Asked, Searched, SearchedBy, Queued, Relabelled, Refreshed};
 use super::Shape;
 use super::map::after_card;
 use super::map::after_child;
@@ -28,6 +32,7 @@ use super::map::set_label;
 use super::map::set_queue;
 use super::map::shop;
 use super::map::spare;
+use super::pick::choose;
 use super::pick::pick;
 
 // Node v is reached by arc e, in place n.
@@ -69,21 +74,31 @@ fn price_above(sh: Shape, u: usize, v: usize, sheet: &[u32]) -> usize
     pick(inside, price(sh, at, sheet), 0)
 }
 
-// Whether the arc from group u up to its parent v is open.
-fn leads_up(sh: Shape, u: usize, v: usize, choice: &[u8], sheet: &[u32], scratch: &[u32]) -> bool
+// Whether there is a step from group u up to its parent v.
+fn leads_up(
+    sh: Shape,
+    back: bool,
+    u: usize,
+    v: usize,
+    choice: &[u8],
+    sheet: &[u32],
+    scratch: &[u32],
+) -> bool
     requires { ⌜ Ready sh (now choice) (now sheet) (now scratch) ⌝ }
     requires { ⌜ (u < sh .groups) × (v ≡ parentOf sh (now scratch) u) ⌝ }
-    ensures { λ r. ⌜ Leads sh (now (choice .entry)) (now (sheet .entry)) (now (scratch .entry)) (sh .groups + sh .rows + u) u v r ⌝ }
+    ensures { λ r. ⌜ Leads sh back (now (choice .entry)) (now (sheet .entry)) (now (scratch .entry)) (riseAt (netOf sh (now (scratch .entry))) back u) u v r ⌝ }
 {
     let cards = sh.cards;
     let even = price(sh, u, sheet) == price_above(sh, u, v, sheet);
-    let room = (u < cards) | (spare(sh, u, scratch) != 0);
+    let easy = choose(back, cards <= u, u < cards);
+    let room = easy | (spare(sh, u, scratch) != 0);
     even & room
 }
 
 // Looks up from group u.
 fn look_up(
     sh: Shape,
+    back: bool,
     u: usize,
     n: usize,
     choice: &[u8],
@@ -92,18 +107,22 @@ fn look_up(
 ) -> usize
     requires { ⌜ Looking sh (now choice) (now sheet) (now scratch) n ⌝ }
     requires { ⌜ u < sh .groups ⌝ }
-    ensures { λ r. ⌜ Looked sh (now (choice .entry)) (now (sheet .entry)) (now (scratch .entry)) (now (scratch .exit)) u (sh .groups + sh .rows + u) n r ⌝ }
+    ensures { λ r. ⌜ Looked sh back (now (choice .entry)) (now (sheet .entry)) (now (scratch .entry)) (now (scratch .exit)) u (riseAt (netOf sh (now (scratch .entry))) back u) n r ⌝ }
 {
     let g = sh.groups;
     let rows = sh.rows;
     let v = parent(sh, u, scratch);
-    let leads = leads_up(sh, u, v, choice, sheet, scratch);
+    let leads = leads_up(sh, back, u, v, choice, sheet, scratch);
+    if back {
+        return look(sh, v, u, leads, n, scratch);
+    }
     look(sh, v, g + rows + u, leads, n, scratch)
 }
 
 // Looks down from node u to its child v, which has the price of u.
 fn look_down(
     sh: Shape,
+    back: bool,
     u: usize,
     v: usize,
     n: usize,
@@ -113,16 +132,23 @@ fn look_down(
 ) -> usize
     requires { ⌜ Looking sh (now choice) (now sheet) (now scratch) n ⌝ }
     requires { ⌜ ChildItem (residualOf sh (now sheet) (now scratch)) u (sh .rows + v) ⌝ }
-    ensures { λ r. ⌜ Looked sh (now (choice .entry)) (now (sheet .entry)) (now (scratch .entry)) (now (scratch .exit)) u v n r ⌝ }
+    ensures { λ r. ⌜ Looked sh back (now (choice .entry)) (now (sheet .entry)) (now (scratch .entry)) (now (scratch .exit)) u (fallAt (netOf sh (now (scratch .entry))) back v) n r ⌝ }
 {
     let cards = sh.cards;
-    let leads = (cards <= v) | (spare(sh, v, scratch) != 0);
+    let g = sh.groups;
+    let rows = sh.rows;
+    let easy = choose(back, v < cards, cards <= v);
+    let leads = easy | (spare(sh, v, scratch) != 0);
+    if back {
+        return look(sh, v, g + rows + v, leads, n, scratch);
+    }
     look(sh, v, v, leads, n, scratch)
 }
 
 // Looks along row c, which costs its weight and leads from node u to node v where its byte in the choice is `when`.
 fn look_row(
     sh: Shape,
+    back: bool,
     u: usize,
     v: usize,
     c: usize,
@@ -133,9 +159,9 @@ fn look_row(
     scratch: &mut [u32],
 ) -> usize
     requires { ⌜ Looking sh (now choice) (now sheet) (now scratch) n ⌝ }
-    requires { ⌜ Ends sh (now scratch) c u v when ⌝ }
+    requires { ⌜ Ends sh back (now scratch) c u v when ⌝ }
     requires { ⌜ (sh .free ≤ c) × RowItem (residualOf sh (now sheet) (now scratch)) u c ⌝ }
-    ensures { λ r. ⌜ Looked sh (now (choice .entry)) (now (sheet .entry)) (now (scratch .entry)) (now (scratch .exit)) u (sh .groups + c) n r ⌝ }
+    ensures { λ r. ⌜ Looked sh back (now (choice .entry)) (now (sheet .entry)) (now (scratch .entry)) (now (scratch .exit)) u (sh .groups + c) n r ⌝ }
 {
     let g = sh.groups;
     let leads = kept(c, choice) == when;
@@ -145,6 +171,7 @@ fn look_row(
 // Looks along item j of node u.
 fn look_item(
     sh: Shape,
+    back: bool,
     u: usize,
     j: usize,
     n: usize,
@@ -154,18 +181,24 @@ fn look_item(
 ) -> usize
     requires { ⌜ Looking sh (now choice) (now sheet) (now scratch) n ⌝ }
     requires { ⌜ AtItem sh (now sheet) (now scratch) u j ⌝ }
-    ensures { λ r. ⌜ Looked sh (now (choice .entry)) (now (sheet .entry)) (now (scratch .entry)) (now (scratch .exit)) u (arcAt (netOf sh (now (scratch .entry))) j) n r ⌝ }
+    ensures { λ r. ⌜ Looked sh back (now (choice .entry)) (now (sheet .entry)) (now (scratch .entry)) (now (scratch .exit)) u (arcAt (netOf sh (now (scratch .entry))) back j) n r ⌝ }
 {
     let rows = sh.rows;
     if rows <= j {
-        return look_down(sh, u, j - rows, n, choice, sheet, scratch);
+        return look_down(sh, back, u, j - rows, n, choice, sheet, scratch);
     }
     let a = card(sh, j, scratch);
     let b = shop(sh, j, scratch);
-    if a == u {
-        return look_row(sh, a, b, j, 0, n, choice, sheet, scratch);
+    if back {
+        if a == u {
+            return look_row(sh, back, a, b, j, 1, n, choice, sheet, scratch);
+        }
+        return look_row(sh, back, b, a, j, 0, n, choice, sheet, scratch);
     }
-    look_row(sh, b, a, j, 1, n, choice, sheet, scratch)
+    if a == u {
+        return look_row(sh, back, a, b, j, 0, n, choice, sheet, scratch);
+    }
+    look_row(sh, back, b, a, j, 1, n, choice, sheet, scratch)
 }
 
 // The item after j at node u.
@@ -186,6 +219,7 @@ pub fn after(sh: Shape, u: usize, j: usize, sheet: &[u32], scratch: &[u32]) -> u
 // Looks along the items of node u, which stands in place h of the queue.
 fn items(
     sh: Shape,
+    back: bool,
     u: usize,
     h: usize,
     n: usize,
@@ -193,8 +227,8 @@ fn items(
     sheet: &[u32],
     scratch: &mut [u32],
 ) -> usize
-    requires { ⌜ Open sh (now choice) (now sheet) (now scratch) u h n ⌝ }
-    ensures { λ r. ⌜ Scanned sh (now (choice .entry)) (now (sheet .entry)) (now (scratch .entry)) (now (scratch .exit)) u h n r (ItemArc (residualOf sh (now (sheet .entry)) (now (scratch .entry))) u) ⌝ }
+    requires { ⌜ Open sh back (now choice) (now sheet) (now scratch) u h n ⌝ }
+    ensures { λ r. ⌜ Scanned sh back (now (choice .entry)) (now (sheet .entry)) (now (scratch .entry)) (now (scratch .exit)) u h n r (ItemArc (residualOf sh (now (sheet .entry)) (now (scratch .entry))) back u) ⌝ }
 {
     let g = sh.groups;
     let rows = sh.rows;
@@ -202,7 +236,7 @@ fn items(
     let mut j = first(sh, u, scratch);
     let mut k = n;
     while j < end {
-        k = look_item(sh, u, j, k, choice, sheet, scratch);
+        k = look_item(sh, back, u, j, k, choice, sheet, scratch);
         j = after(sh, u, j, sheet, scratch);
     }
     k
@@ -211,6 +245,7 @@ fn items(
 // Looks up from node u, which stands in place h of the queue, where `rises` holds.
 fn look_above(
     sh: Shape,
+    back: bool,
     u: usize,
     h: usize,
     n: usize,
@@ -219,19 +254,19 @@ fn look_above(
     sheet: &[u32],
     scratch: &mut [u32],
 ) -> usize
-    requires { ⌜ Open sh (now choice) (now sheet) (now scratch) u h n ⌝ }
+    requires { ⌜ Open sh back (now choice) (now sheet) (now scratch) u h n ⌝ }
     requires { ⌜ (rises ≡ true → u < sh .groups) ⌝ }
-    ensures { λ r. ⌜ Scanned sh (now (choice .entry)) (now (sheet .entry)) (now (scratch .entry)) (now (scratch .exit)) u h n r (Rising sh u rises) ⌝ }
+    ensures { λ r. ⌜ Scanned sh back (now (choice .entry)) (now (sheet .entry)) (now (scratch .entry)) (now (scratch .exit)) u h n r (Rising sh back u rises) ⌝ }
 {
     if rises {
-        return look_up(sh, u, n, choice, sheet, scratch);
+        return look_up(sh, back, u, n, choice, sheet, scratch);
     }
     n
 }
 
 // Looks along all arcs out of node u, which stands in place h of the queue: its items, and its up arc, at a card before them and at a
 // shop after them.
-fn scan(
+fn scan_out(
     sh: Shape,
     u: usize,
     h: usize,
@@ -240,14 +275,36 @@ fn scan(
     sheet: &[u32],
     scratch: &mut [u32],
 ) -> usize
-    requires { ⌜ Open sh (now choice) (now sheet) (now scratch) u h n ⌝ }
-    ensures { λ r. ⌜ Scanned sh (now (choice .entry)) (now (sheet .entry)) (now (scratch .entry)) (now (scratch .exit)) u h n r Every ⌝ }
+    requires { ⌜ Open sh false (now choice) (now sheet) (now scratch) u h n ⌝ }
+    ensures { λ r. ⌜ Scanned sh false (now (choice .entry)) (now (sheet .entry)) (now (scratch .entry)) (now (scratch .exit)) u h n r Every ⌝ }
 {
     let cards = sh.cards;
     let g = sh.groups;
-    let k = look_above(sh, u, h, n, u < cards, choice, sheet, scratch);
-    let m = items(sh, u, h, k, choice, sheet, scratch);
-    look_above(sh, u, h, m, (cards <= u) & (u < g), choice, sheet, scratch)
+    let k = look_above(sh, false, u, h, n, u < cards, choice, sheet, scratch);
+    let m = items(sh, false, u, h, k, choice, sheet, scratch);
+    let rises = (cards <= u) & (u < g);
+    look_above(sh, false, u, h, m, rises, choice, sheet, scratch)
+}
+
+// Looks against all arcs into node u, in the same order.
+fn scan_in(
+    sh: Shape,
+    u: usize,
+    h: usize,
+    n: usize,
+    choice: &[u8],
+    sheet: &[u32],
+    scratch: &mut [u32],
+) -> usize
+    requires { ⌜ Open sh true (now choice) (now sheet) (now scratch) u h n ⌝ }
+    ensures { λ r. ⌜ Scanned sh true (now (choice .entry)) (now (sheet .entry)) (now (scratch .entry)) (now (scratch .exit)) u h n r Every ⌝ }
+{
+    let cards = sh.cards;
+    let g = sh.groups;
+    let k = look_above(sh, true, u, h, n, u < cards, choice, sheet, scratch);
+    let m = items(sh, true, u, h, k, choice, sheet, scratch);
+    let rises = (cards <= u) & (u < g);
+    look_above(sh, true, u, h, m, rises, choice, sheet, scratch)
 }
 
 // Brings the last of n nodes of the queue to place h, for the one that stood there. The answer is that node.
@@ -277,25 +334,46 @@ fn take_next(sh: Shape, h: usize, n: usize, scratch: &mut [u32]) -> usize
     newest(sh, h, n, scratch)
 }
 
-// Goes through the queue until the target is reached or the queue ends. The answer is how many nodes are reached.
-fn spread(sh: Shape, target: usize, choice: &[u8], sheet: &[u32], scratch: &mut [u32]) -> usize
-    requires { ⌜ Seeded sh (now choice) (now sheet) (now scratch) target ⌝ }
+// Goes through the queue until the label of the target changes or the queue ends. The answer is how many nodes are reached.
+fn spread_out(sh: Shape, target: usize, choice: &[u8], sheet: &[u32], scratch: &mut [u32]) -> usize
+    requires { ⌜ Seeded sh false (now choice) (now sheet) (now scratch) target ⌝ }
     ensures { λ r. ⌜ Searched sh (now (choice .entry)) (now (sheet .entry)) (now (scratch .entry)) (now (scratch .exit)) (queueOf sh (now (scratch .entry)) 0) target r ⌝ }
 {
+    let was = label(sh, target, scratch);
     let mut n: usize = 1;
     let mut h: usize = 0;
     while h < n {
-        if label(sh, target, scratch) != sh.fresh {
+        if label(sh, target, scratch) != was {
             return n;
         }
         let u = take_next(sh, h, n, scratch);
-        n = scan(sh, u, h, n, choice, sheet, scratch);
+        n = scan_out(sh, u, h, n, choice, sheet, scratch);
         h += 1;
     }
     n
 }
 
-// Searches open arcs from the start until the target is reached or no arc is left. The answer is how many nodes are reached.
+// The same against open arcs.
+fn spread_in(sh: Shape, target: usize, choice: &[u8], sheet: &[u32], scratch: &mut [u32]) -> usize
+    requires { ⌜ Seeded sh true (now choice) (now sheet) (now scratch) target ⌝ }
+    ensures { λ r. ⌜ SearchedBy sh true (now (choice .entry)) (now (sheet .entry)) (now (scratch .entry)) (now (scratch .exit)) (queueOf sh (now (scratch .entry)) 0) target r ⌝ }
+{
+    let was = label(sh, target, scratch);
+    let mut n: usize = 1;
+    let mut h: usize = 0;
+    while h < n {
+        if label(sh, target, scratch) != was {
+            return n;
+        }
+        let u = take_next(sh, h, n, scratch);
+        n = scan_in(sh, u, h, n, choice, sheet, scratch);
+        h += 1;
+    }
+    n
+}
+
+// Searches open arcs from the start until the target is reached or no arc is left; where the target is not fresh, to the end. The answer is
+// how many nodes are reached.
 pub fn search(
     sh: Shape,
     start: usize,
@@ -311,7 +389,25 @@ pub fn search(
     let rows = sh.rows;
     // the start is reached by a number that no arc has
     reach(sh, start, 2 * g + rows, 0, scratch);
-    spread(sh, target, choice, sheet, scratch)
+    spread_out(sh, target, choice, sheet, scratch)
+}
+
+// The same against open arcs: the nodes that it reaches are those that lead to the start.
+pub fn search_back(
+    sh: Shape,
+    start: usize,
+    target: usize,
+    choice: &[u8],
+    sheet: &[u32],
+    scratch: &mut [u32],
+) -> usize
+    requires { ⌜ Asked sh (now choice) (now sheet) (now scratch) start target ⌝ }
+    ensures { λ r. ⌜ SearchedBy sh true (now (choice .entry)) (now (sheet .entry)) (now (scratch .entry)) (now (scratch .exit)) start target r ⌝ }
+{
+    let g = sh.groups;
+    let rows = sh.rows;
+    reach(sh, start, 2 * g + rows, 0, scratch);
+    spread_in(sh, target, choice, sheet, scratch)
 }
 
 // Gives the label x to the nodes in the first n places of the queue.

@@ -17,6 +17,7 @@
 --                                   no toll the row order up to row i
 use mathlib.Core.Path.{_≡_, refl, _∙_, ap}
 use mathlib.Core.Logic.{_≢_, ⊎-elim}
+use mathlib.Core.Bool.{Bool}
 use mathlib.Core.List.{List}
 use Prim.Native.Nat.{ℕ, _+_, _<_}
 use native.Mathlib.Decide.{decLt}
@@ -27,7 +28,7 @@ use Rattle.theory.specs.Incidence.{size}
 use Rattle.theory.specs.Network.{Network}
 use Rattle.theory.specs.Formed.{Formed}
 use Rattle.theory.specs.Level.{count, Counts, Ordered}
-use Rattle.theory.specs.Residual.{Residual, Arc, Cut}
+use Rattle.theory.specs.Residual.{Residual, Cut}
 use Rattle.theory.specs.Turn.{Flipped}
 use Rattle.theory.proofs.CutLaws.{tail-node, head-node}
 use Rattle.theory.proofs.FlipLaws.{path-size, path-counts, path-level, cycle-size, cycle-counts, cycle-level, cycle-ordered}
@@ -35,8 +36,8 @@ use Rattle.residual.specs.declared.Shape.{Shape}
 use Rattle.residual.specs.Map.{Keeps, OnlySearch, OnlyLabels, OnlyLists, PutKept, arcIn, labelOf, predOf, spareOf, cardOf, shopOf, weightOf, keptOf, spares, firsts, childAfters, cardAfters, shopAfters, parents, rowPrice}
 use Rattle.residual.specs.View.{netOf, residualOf}
 use Rattle.residual.specs.Items.{Linked, Links}
-use Rattle.residual.specs.Reach.{Reach}
-use Rattle.residual.specs.Search.{ReachOf, Searched}
+use Rattle.residual.specs.Reach.{Step, Reach}
+use Rattle.residual.specs.Search.{ReachBy, SearchedBy, Searched}
 use Rattle.residual.proofs.MapLaws.{keeps-more, residual-same}
 use Rattle.solver.specs.State.{Working, OnlyMoves, AllFresh, limitOf, State, Filled}
 use Rattle.solver.specs.Path.{Found}
@@ -57,8 +58,8 @@ cut-same :
 cut-same e p C = rw (e, p) C
 
 reach-same :
-    {r r′ : Residual} {S f f′ pred queue : ℕ → ℕ} {h n : ℕ} → r′ ≡ r → f′ ≡ f → Reach r S f pred queue h n →
-    Reach r′ S f′ pred queue h n
+    {back : Bool} {r r′ : Residual} {S f f′ pred queue : ℕ → ℕ} {h n : ℕ} → r′ ≡ r → f′ ≡ f → Reach back r S f pred queue h n →
+    Reach back r′ S f′ pred queue h n
 reach-same e p A = rw (e, p) A
 
 ordered-same :
@@ -149,31 +150,14 @@ module _ {sh : Shape} {t t′ : List ℕ} (A : OnlyUnread sh t t′) where
 --------------------------------------------------------------------------------
 -- A search
 
+-- in either direction
 module _
-    {sh : Shape} {ch sheet t t′ : List ℕ} {start target n : ℕ} (X : Searched sh ch sheet t t′ start target n)
+    {sh : Shape} {back : Bool} {ch sheet t t′ : List ℕ} {start target n : ℕ} (X : SearchedBy sh back ch sheet t t′ start target n)
   where
-    pub searched-reach : ReachOf sh ch sheet t′ t′ n n
+    pub searched-reach : ReachBy sh back ch sheet t′ t′ n n
     searched-reach =
         let K = unread-search (X .only) in
         reach-same (residual-keeps (unread-keeps K) sheet) (spare-unread K) (X .reach)
-
-    pub searched-found :
-        State sh ch sheet t → target < sh .groups + 2 → 0 < predOf sh t′ target → Found sh ch sheet t′ start target n
-    unfolding limitOf
-    searched-found I node found =
-        let J : State sh ch sheet t′ = state-unread (unread-search (X .only)) I in
-        record {
-          path = record {
-            ready = state-ready J;
-            n = n;
-            reach = searched-reach;
-            begin = X .begin;
-            node = node;
-            found = found;
-            low = J .low;
-          };
-          count = refl;
-        }
 
     pub searched-rest : (v : ℕ) → predOf sh t′ v ≡ 0 → labelOf sh t′ v ≡ labelOf sh t v
     searched-rest v none = ⊎-elim (λ e. e) (λ h. absurd (omega (arith, h .1))) (X .spread v)
@@ -185,16 +169,37 @@ module _
     pub searched-start : 0 < predOf sh t′ start
     searched-start = rw (X .begin) at (X .reach .seen 0 (X .reach .some))
 
-    -- an open arc from a reached node to one that was fresh
+    -- a step from a reached node to one that was fresh
     pub searched-closed :
         predOf sh t′ target ≡ 0 → (e u v : ℕ) → u < sh .groups + 2 →
-        Arc (residualOf sh sheet t) (keptOf ch) (spareOf sh t) e u v 0 → 0 < predOf sh t′ u → labelOf sh t v ≡ sh .fresh →
+        Step back (residualOf sh sheet t) (keptOf ch) (spareOf sh t) e u v → 0 < predOf sh t′ u → labelOf sh t v ≡ sh .fresh →
         0 < predOf sh t′ v
     searched-closed lost e u v node A from was =
         elim (decLt 0 (predOf sh t′ v)) [
           | yes l ↦ l
           | no l ↦ absurd (X .closed lost u node from e v A (searched-rest v (omega arith) ∙ was))
         ]
+
+module _
+    {sh : Shape} {ch sheet t t′ : List ℕ} {start target n : ℕ} (X : Searched sh ch sheet t t′ start target n)
+  where
+    pub searched-found :
+        State sh ch sheet t → target < sh .groups + 2 → 0 < predOf sh t′ target → Found sh ch sheet t′ start target n
+    unfolding limitOf
+    searched-found I node found =
+        let J : State sh ch sheet t′ = state-unread (unread-search (X .only)) I in
+        record {
+          path = record {
+            ready = state-ready J;
+            n = n;
+            reach = searched-reach X;
+            begin = X .begin;
+            node = node;
+            found = found;
+            low = J .low;
+          };
+          count = refl;
+        }
 
     pub searched-cut :
         Formed (netOf sh t) → AllFresh sh t → predOf sh t′ target ≡ 0 →
@@ -204,9 +209,9 @@ module _
         cut-same (residual-keeps (unread-keeps K) sheet) (spare-unread K)
         (record {
           closed = λ e u v A from.
-              searched-closed lost e u v (tail-node (residualOf sh sheet t) (keptOf ch) (spareOf sh t) F e u v 0 A) A from
+              searched-closed X lost e u v (tail-node (residualOf sh sheet t) (keptOf ch) (spareOf sh t) F e u v 0 A) A from
               (fresh v (head-node (residualOf sh sheet t) (keptOf ch) (spareOf sh t) F e u v 0 A));
-          start = searched-start;
+          start = searched-start X;
           target = lost;
         })
 

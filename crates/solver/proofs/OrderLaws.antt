@@ -319,7 +319,6 @@ module _ {sh : Shape} {ch sheet t : List ℕ} {i a b next : ℕ} (W : Swapping s
     start-node = b-node;
     target-node = a-node;
     start-fresh = b-fresh;
-    target-fresh = W .mine;
     dark = dark;
   }
 

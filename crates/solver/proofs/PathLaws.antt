@@ -6,6 +6,7 @@
 --   turned-back            what was done then
 use mathlib.Core.Path.{_≡_, sym, ap, _∙_}
 use mathlib.Core.Logic.{inl, inr}
+use mathlib.Core.Bool.{Bool, false}
 use mathlib.Core.List.{List}
 use Prim.Native.Nat.{ℕ, _+_}
 use native.Mathlib.Decide.{decLt}
@@ -15,7 +16,7 @@ use Rattle.theory.specs.Turn.{Flipped, Inside}
 use Rattle.residual.specs.declared.Shape.{Shape}
 use Rattle.residual.specs.Map.{Room, labelOf, predOf, queueOf, spareOf, labels, queues, spares}
 use Rattle.residual.specs.Reach.{Reach}
-use Rattle.residual.specs.Search.{ReachOf, Queued, Relabelled}
+use Rattle.residual.specs.Search.{ReachBy, ReachOf, Queued, Relabelled}
 use Rattle.residual.specs.Flip.{Walked}
 use Rattle.residual.proofs.MapLaws.{keeps-more, keeps-then, room-keeps}
 use Rattle.residual.proofs.ReachLaws.{reached-most}
@@ -23,7 +24,7 @@ use Rattle.solver.specs.Path.{Renamed, Found, TurnedBack}
 
 -- the tables t′ have the labels and the queue of t
 module _
-    (sh : Shape) (ch sheet t : List ℕ) {n : ℕ} (R : ReachOf sh ch sheet t t n n) {t′ : List ℕ}
+    (sh : Shape) (ch sheet t : List ℕ) {back : Bool} {n : ℕ} (R : ReachBy sh back ch sheet t t n n) {t′ : List ℕ}
     (queue : queueOf sh t′ ≡ queueOf sh t)
   where
     pub queued-reach : Room sh t′ → Queued sh t′ n
@@ -60,7 +61,7 @@ module _
 -- A path that is turned
 
 reach-count :
-    {r : Residual} {S f pred queue : ℕ → ℕ} {m n : ℕ} → m ≡ n → Reach r S f pred queue m m → Reach r S f pred queue n n
+    {r : Residual} {S f pred queue : ℕ → ℕ} {m n : ℕ} → m ≡ n → Reach false r S f pred queue m m → Reach false r S f pred queue n n
 reach-count e A = rw e at A
 
 flipped-spare :

@@ -92,7 +92,6 @@ module _ {sh : Shape} {ch sheet t : List ℕ} (R : Running sh ch sheet t) where
     start-node = omega arith;
     target-node = omega arith;
     start-fresh = R .fresh (sh .groups) (omega arith);
-    target-fresh = R .fresh (sh .groups + 1) (omega arith);
     dark = λ v l. arc-in-same (sh .fresh) (labelOf sh t v) (R .fresh v l);
   }
 

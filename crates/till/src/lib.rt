@@ -1,7 +1,7 @@
 // The calls for the till's own program, which is in C: c/claims.h declares them.
 //
-// A slice is passed as a pointer and a length. Each call on a file answers a struct of numbers by value. Only settle, the slip and the
-// canonical form change lent memory. A call takes a new file, and the one beside it, with `_stored` in its name, a stored file.
+// A slice is passed as a pointer and a length. Each call on a file answers a struct of numbers by value. Only settle, the slip, the
+// canonical form and the codes change lent memory. A call takes a new file, and the one beside it, with `_stored` in its name, a stored file.
 ghost use mathlib.Core.Path.{_≡_};
 ghost use Prim.Native.Nat.{_≤_};
 ghost use Rattle.theory.specs.Bounds.{maxRows, maxLimit};
@@ -11,12 +11,13 @@ ghost use Rattle.slip.specs.Write as slip-write;
 ghost use Rattle.canonical.specs.Write as canonical-write;
 ghost use Rattle.till.specs.Numbers.{rankedNumbers, spareNumbers, FitsAndRankIs, SparePlacesIs};
 ghost use Rattle.till.specs.SettleNumbers.{settledNumbers, SettleIs};
-ghost use Rattle.till.specs.WriteNumbers.{writtenNumbers, WriteIs};
+ghost use Rattle.till.specs.WriteNumbers.{writtenNumbers, WriteIs, CodesAre};
 ghost use Rattle.till.specs.Version.{version};
 use canonical::write_canonical;
 use claimfile::Form;
 use closing::Settled;
 use closing::settle;
+use codes::write_codes;
 use limits::Ranked;
 use limits::Spare;
 use limits::fits_and_rank;
@@ -26,7 +27,7 @@ use refusal::number;
 use slip::write_slip;
 
 // Which library this is. It rises by one with each change of a call, a needed length or an answer.
-pub const VERSION: u32 = 6;
+pub const VERSION: u32 = 7;
 
 // The refusal's number and zeros where the call is turned away; else 0, 1 where the selection fits and 0 where not, and its rank.
 #[repr(C)]
@@ -273,6 +274,37 @@ pub extern "C" fn claims_write_canonical_stored(file: &[u8], canonical: &mut [u8
     ensures { λ r. ⌜ WriteIs (canonical-write.outcome storedFile (now (file .entry)) (now (canonical .entry))) (now (canonical .exit)) r ⌝ }
 {
     write_canonical_as(file, Form { stored: true }, canonical)
+}
+
+// The codes for a file in a form.
+fn write_codes_as(file: &[u8], form: Form, codes: &mut [u8], scratch: &mut [u32]) -> WriteAnswer
+    ensures { λ r. ⌜ CodesAre form (now (file .entry)) (now (codes .entry)) (now (scratch .entry)) (now (codes .exit)) (now (scratch .exit)) r ⌝ }
+{
+    written_numbers(write_codes(file, form, codes, scratch))
+}
+
+// Writes the code of each row, which tells what holds an earned row, and clears the scratch.
+#[no_mangle]
+pub extern "C" fn claims_write_codes(
+    file: &[u8],
+    codes: &mut [u8],
+    scratch: &mut [u32],
+) -> WriteAnswer
+    ensures { λ r. ⌜ CodesAre newFile (now (file .entry)) (now (codes .entry)) (now (scratch .entry)) (now (codes .exit)) (now (scratch .exit)) r ⌝ }
+{
+    write_codes_as(file, Form { stored: false }, codes, scratch)
+}
+
+// The same for a stored file.
+#[no_mangle]
+pub extern "C" fn claims_write_codes_stored(
+    file: &[u8],
+    codes: &mut [u8],
+    scratch: &mut [u32],
+) -> WriteAnswer
+    ensures { λ r. ⌜ CodesAre storedFile (now (file .entry)) (now (codes .entry)) (now (scratch .entry)) (now (codes .exit)) (now (scratch .exit)) r ⌝ }
+{
+    write_codes_as(file, Form { stored: true }, codes, scratch)
 }
 
 // The version, for a box to be asked.

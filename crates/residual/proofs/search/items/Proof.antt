@@ -11,10 +11,10 @@ use Rattle.residual.proofs.search.after.Reads as after-reads
 use Rattle.residual.proofs.search.look_item.Reads as look-item-reads
 
 abbrev Inv-loop : tie.InvT-loop
-Inv-loop sh u h n choice sheet scratch₀ g rows end j₀ k₀ scratch j k = Along sh choice sheet scratch₀ u h n scratch j k
+Inv-loop sh back u h n choice sheet scratch₀ g rows end j₀ k₀ scratch j k = Along sh back choice sheet scratch₀ u h n scratch j k
 
 abbrev μ-loop : tie.MeasureT-loop
-μ-loop sh u h n choice sheet scratch₀ g rows end j₀ k₀ scratch j k = end - j
+μ-loop sh back u h n choice sheet scratch₀ g rows end j₀ k₀ scratch j k = end - j
 
 add-end : tie.Need-add-end Inv-loop μ-loop
 add-end c = search needs

@@ -1,11 +1,8 @@
+-- The up arc of a card comes before the items, and that of a shop group after them: together these are all steps from the node.
 use borrow.Author.Needs.{needs}
 use Rattle.residual.proofs.SearchLaws.{open-on, scanned-items, scanned-more, scanned-all, rising-card, rising-shop}
-use Rattle.residual.proofs.search.scan.Statement.{statement}
-use Rattle.residual.proofs.search.scan.Tie as tie
-use Rattle.residual.proofs.search.scan.Reads as reads
-use Rattle.residual.proofs.search.scan.Lts as lts
-use Rattle.residual.proofs.search.items.Reads as items-reads
-use Rattle.residual.proofs.search.look_above.Reads as look-above-reads
+use Rattle.residual.proofs.search.scan_out.Statement.{statement}
+use Rattle.residual.proofs.search.scan_out.Tie as tie
 
 look-above-requires : tie.Need-look-above-requires
 look-above-requires c κs =
@@ -37,7 +34,7 @@ returns c =
     scanned-all (O .free)
     (scanned-more O (scanned-items O (looked .look-above .ensures) (listed .items .ensures)) (last .look-above2 .ensures))
 
-pub scan-spec : {M : Type 1} → statement M
-scan-spec =
+pub scan-out-spec : {M : Type 1} → statement M
+scan-out-spec =
     tie.close
     (tie.spec look-above-requires items-requires look-above-requires-2 same-length returns)
