@@ -1,4 +1,4 @@
--- What `write_canonical` and `write_canonical_stored` answer and leave, for every file and buffer: document 02, E3 and E4.
+-- What `write_canonical` answers and leaves, for every file in either form and buffer: document 02, E3 and E4.
 --   outcomeBy f s out x    the outcome for a file s with the reading x: its first fault, then 8, else the canonical file
 --   outcome f s out        the outcome for a file in the form f, new or stored
 --   Writes f s out out′ r  the whole contract: the answer r and the cells out′ are the outcome, and so are number and length (`Leaves`)

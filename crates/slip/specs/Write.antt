@@ -1,4 +1,4 @@
--- What `write_slip` and `write_slip_stored` answer and leave, for every file, selection and buffer: document 02, E1 and E4.
+-- What `write_slip` answers and leaves, for every file in either form, selection and buffer: document 02, E1 and E4.
 --   width                  how many bytes a line has, with its line feed
 --   needed l sel           how many bytes the slip has: a line for each kept row, and the first
 --   lacks l sel out        whether the selection or the buffer is too short
