@@ -9,3 +9,4 @@ pub mod PutLaws
 pub mod WrittenLaws
 pub mod StoredLaws
 pub mod BegunLaws
+pub mod ClaimsLaws

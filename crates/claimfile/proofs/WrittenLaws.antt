@@ -1,5 +1,6 @@
 -- Laws of a written file: it is accepted, its records read back, and it holds nothing else.
 --   word-back group-back claim-back    a number or a record that stands at a place is read there
+--   section-passes group-passes claim-passes   a section, a group and a claim without a fault
 --   written-length                     how long the file is
 --   written-count written-place        the count and the records of a side stand at their places
 --   written-row-count written-row      so do the count and the records of the claims
@@ -110,7 +111,7 @@ unfolding section
 section-bytes n f l h = bytes-append (bytesOf n) (records n f) (bytes-word n l) (bytes-records n f h)
 
 -- a section with a small count and records without a fault
-section-passes :
+pub section-passes :
     (s : List ℕ) (at most : ℕ) (over : Refusal) (width : ℕ) (checked : Checked) (n start next : ℕ) → at + 2 ≤ length s →
     word s at ≡ n → n ≤ most → checked ≡ Fine → start ≡ at + 2 → next ≡ start + width * n →
     sectionBy s at most over width checked ≡ Read n start next
@@ -131,7 +132,7 @@ group-passes f group own parent limit =
           ]
     ]
 
-claim-passes :
+pub claim-passes :
     (claim : Claim) (cards shops : ℕ) → claim .card < cards → claim .shop < shops → claim .kind ≤ 1 →
     claimFault claim cards shops ≡ Fine
 unfolding claimFault

@@ -6,12 +6,14 @@
 --   sectionOn f s side     the group section of a side, as the calls for files of the form f read it
 --   fromCount at x         a section whose count stands at `at`, with its places counted from there
 --   OwnBytes s a t b n     n bytes of s from a on are those of t from b on
+--   withRows l n           the layout l with n claims in the place of its own
 use Prim.Native.Nat.{ℕ, zero, suc, _+_, _-_, _<_}
 use mathlib.Core.Path.{_≡_}
 use mathlib.Core.List.{List}
 use lib.ListN.{getD}
 use Rattle.claimfile.specs.File.{sectionAt}
 use Rattle.claimfile.specs.declared.Form.{Form}
+use Rattle.claimfile.specs.declared.Layout.{Layout}
 use Rattle.claimfile.specs.declared.Section.{Section}
 use Rattle.claimfile.specs.declared.Section.the-variants.{Read, Faulty}
 
@@ -32,3 +34,13 @@ fromCount at (Faulty why) = Faulty why
 
 abbrev pub OwnBytes : List ℕ → ℕ → List ℕ → ℕ → ℕ → Type 0
 OwnBytes s a t b n = (i : ℕ) → i < n → getD s (a + i) 0 ≡ getD t (b + i) 0
+
+abbrev pub withRows : Layout → ℕ → Layout
+withRows l n = record {
+  cards = l .cards;
+  shops = l .shops;
+  rows = n;
+  «card_at» = l .«card_at»;
+  «shop_at» = l .«shop_at»;
+  «row_at» = l .«row_at»;
+}
