@@ -8,11 +8,12 @@
 // side of the network comes last at a card node, and the way up comes last at a shop node: most paths from the source to the sink are
 // found early so, where the newest node is gone on from first.
 ghost use mathlib.Core.Path.{_≡_};
+ghost use mathlib.Core.Logic.{_≢_};
 ghost use mathlib.Core.Bool.{true, false};
 ghost use Prim.Native.Nat.{_+_, _≤_, _<_};
 ghost use lib.ListN.{length};
 ghost use Rattle.theory.specs.Bounds.{cellBound};
-ghost use Rattle.residual.specs.Map.{parentOf, priceOf, queueOf, span, Room};
+ghost use Rattle.residual.specs.Map.{labelOf, parentOf, priceOf, queueOf, spareOf, span, Room};
 ghost use Rattle.residual.specs.View.{netOf, residualOf};
 ghost use Rattle.residual.specs.State.{Ready};
 ghost use Rattle.residual.specs.Items.{RowItem, ChildItem, ItemArc, Least, riseAt, fallAt, arcAt};
@@ -204,7 +205,7 @@ fn look_item(
 // The item after j at node u.
 pub fn after(sh: Shape, u: usize, j: usize, sheet: &[u32], scratch: &[u32]) -> usize
     requires { ⌜ AtItem sh (now sheet) (now scratch) u j ⌝ }
-    ensures { λ r. ⌜ Least (residualOf sh (now (sheet .entry)) (now (scratch .entry))) u (j + 1) r ⌝ }
+    ensures { λ r. ⌜ Least (residualOf sh (now (sheet .entry)) (now (scratch .entry))) (spareOf sh (now (scratch .entry))) u (j + 1) r ⌝ }
 {
     let rows = sh.rows;
     if rows <= j {
@@ -392,7 +393,8 @@ pub fn search(
     spread_out(sh, target, choice, sheet, scratch)
 }
 
-// The same against open arcs: the nodes that it reaches are those that lead to the start.
+// The same against open arcs: the nodes that it reaches are those that lead to the start. The source is not fresh: it is not gone on
+// from, and its list may be short.
 pub fn search_back(
     sh: Shape,
     start: usize,
@@ -402,6 +404,7 @@ pub fn search_back(
     scratch: &mut [u32],
 ) -> usize
     requires { ⌜ Asked sh (now choice) (now sheet) (now scratch) start target ⌝ }
+    requires { ⌜ labelOf sh (now scratch) (sh .groups) ≢ sh .fresh ⌝ }
     ensures { λ r. ⌜ SearchedBy sh true (now (choice .entry)) (now (sheet .entry)) (now (scratch .entry)) (now (scratch .exit)) start target r ⌝ }
 {
     let g = sh.groups;
