@@ -23,15 +23,26 @@ static void check_named(const struct outcome *ours, unsigned family, unsigned ro
     if (family == EVERYTHING) check(ours->kept == rows, "something does not fit", "ours", family, rows, number);
 }
 
-/* Each contestant settles a day as ours does, and so does our call for stored files, since the day is a new file. */
+/* Our calls for every sort of file settle a day as the first one does, on any weekday, since the day is a new one with equal weekdays. */
+static void check_sorts(const struct outcome *ours, unsigned family, unsigned rows, unsigned number) {
+    static struct file file;
+    static struct outcome same_day;
+    struct day d = tables_of(family, rows, number);
+    for (const struct sort *by = sorts; by < sorts + SORTS; by++) {
+        write_day(&d, by->layout, &file);
+        memset(&same_day, 7, sizeof same_day);
+        ours_settle_by(by, number % WEEKDAYS, &file, &same_day);
+        check(same(&same_day, ours, rows, 1), "another answer for a sort of file", by->name, family, rows, number);
+    }
+}
+
+/* Each contestant settles a day as ours does. */
 static void check_settled(const struct file *day, unsigned family, unsigned rows, unsigned number) {
     static struct outcome ours, theirs;
     ours_settle(day->bytes, day->length, &ours);
     check(ours.refusal == 0, "refused", "ours", family, rows, number);
     check_named(&ours, family, rows, number);
-    memset(&theirs, 7, sizeof theirs);
-    ours_settle_stored(day->bytes, day->length, &theirs);
-    check(same(&theirs, &ours, rows, 1), "another answer for a stored file", "ours", family, rows, number);
+    check_sorts(&ours, family, rows, number);
     for (unsigned who = 1; who < contestant_count; who++) {
         memset(&theirs, 7, sizeof theirs);
         contestants[who].settle(day->bytes, day->length, &theirs);
@@ -45,7 +56,7 @@ static void check_searched(const struct file *day, unsigned family, unsigned row
     static struct outcome ours, best;
     struct day d;
     ours_settle(day->bytes, day->length, &ours);
-    best.refusal = read_day(day->bytes, day->length, NEW, &d);
+    best.refusal = read_day(day->bytes, day->length, week_file, &d);
     search_all(&d, 2, best.choice);
     best.earned = count_rows(&d, best.choice, 1);
     best.kept = count_rows(&d, best.choice, 0);
@@ -54,7 +65,7 @@ static void check_searched(const struct file *day, unsigned family, unsigned row
 
 static int equal_ranks(struct plain_rank a, struct plain_rank b) { return a.refusal == b.refusal && a.fits == b.fits && a.rank == b.rank; }
 
-/* Fits and rank of the kept rows, which fit, and of every other row, on both sides and on one that does not exist. */
+/* Fits and rank of the kept rows, which fit, and of every other row, on both sides and on one that does not exist, and on a day over 6. */
 static void check_ranks(const struct file *day, unsigned family, unsigned rows, unsigned number) {
     static struct outcome kept;
     static uint8_t other[MOST_ROWS];
@@ -64,9 +75,10 @@ static void check_ranks(const struct file *day, unsigned family, unsigned rows, 
         for (unsigned k = 0; k < 3; k++) {
             const uint8_t *selection = k ? other : kept.choice;
             size_t selected = k == 2 ? rows - 1 : rows;
-            struct plain_rank ours = ours_fits_and_rank(day->bytes, day->length, selection, selected, side);
-            struct plain_rank plain = plain_fits_and_rank(day->bytes, day->length, selection, selected, side);
-            struct plain_rank greedy = greedy_fits_and_rank(day->bytes, day->length, selection, selected, side);
+            unsigned weekday = (side + k + number) % (WEEKDAYS + 1);
+            struct plain_rank ours = ours_fits_and_rank(day->bytes, day->length, selection, selected, side, weekday);
+            struct plain_rank plain = plain_fits_and_rank(day->bytes, day->length, selection, selected, side, weekday);
+            struct plain_rank greedy = greedy_fits_and_rank(day->bytes, day->length, selection, selected, side, weekday);
             check(equal_ranks(ours, plain), "another rank than ours", "plain C", family, rows, number);
             check(equal_ranks(ours, greedy), "another rank than ours", "greedy C", family, rows, number);
         }
@@ -90,7 +102,7 @@ static void check_codes(const struct file *day, unsigned family, unsigned rows, 
     unsigned wrong = 0;
     ours_settle(day->bytes, day->length, &kept);
     check(ours_codes(day->bytes, day->length, codes) == 0, "no codes", "ours", family, rows, number);
-    wrong += read_day(day->bytes, day->length, NEW, &d) != 0;
+    wrong += read_day(day->bytes, day->length, week_file, &d) != 0;
     for (unsigned c = 0; c < rows; c++) wrong += (codes[c] == CLAIMS_CODE_ORDINARY) != (d.kind[c] == 0) || codes[c] > CLAIMS_CODE_REST;
     wrong += kept_with(&d, kept.choice, codes, CLAIMS_CODE_SHOP, coded) != rank_side(&d, SHOP, coded).rank;
     wrong += kept_with(&d, kept.choice, codes, CLAIMS_CODE_CARD, coded) != rank_side(&d, CARD, coded).rank;
@@ -109,7 +121,7 @@ static void check_damaged(const struct file *day, unsigned family, unsigned rows
         if (k % 4 != 0) hurt.bytes[day->length * k / 400] = values[k % 5];
         if (k == 398) hurt.bytes[hurt.length++] = 0;
         unsigned ours = ours_judge(hurt.bytes, hurt.length);
-        wrong += ours != read_day(hurt.bytes, hurt.length, NEW, &d);
+        wrong += ours != read_day(hurt.bytes, hurt.length, week_file, &d);
         wrong += ours != plain_judge(hurt.bytes, hurt.length);
     }
     check(wrong == 0, "another refusal than ours", "plain C", family, rows, number);

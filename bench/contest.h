@@ -1,4 +1,4 @@
-/* The contestants: each settles the bytes of a new claim file. */
+/* The contestants: each settles the bytes of a new claim file of the week layout, by the limits of weekday 0. */
 #ifndef CONTEST_H
 #define CONTEST_H
 
@@ -7,6 +7,9 @@
 #ifdef __cplusplus
 extern "C" {
 #endif
+
+/* How they take the file. */
+static const struct form week_file = {WEEK, NEW, 0};
 
 struct outcome {
     unsigned refusal, earned, kept;

@@ -148,7 +148,7 @@ static void set_limits(struct day *d, unsigned family) {
 }
 
 /* The limits are lowered last, so that the file is a new one. */
-void make_day(unsigned family, unsigned rows, unsigned number, struct file *file) {
+struct day tables_of(unsigned family, unsigned rows, unsigned number) {
     struct day d = flat_day(rows / 2, 1, rows / 2, 1);
     d.rows = rows;
     start_numbers(20270301u + family * 1000003u + rows * 10007u + number);
@@ -162,6 +162,10 @@ void make_day(unsigned family, unsigned rows, unsigned number, struct file *file
     if (family == FLAT || family == PATHS) name_inner(&d);
     draw_kinds(&d, family, number);
     set_limits(&d, family);
-    d = lowered(&d);
-    write_day(&d, file);
+    return lowered(&d);
+}
+
+void make_day(unsigned family, unsigned rows, unsigned number, struct file *file) {
+    struct day d = tables_of(family, rows, number);
+    write_day(&d, WEEK, file);
 }

@@ -1,4 +1,4 @@
-/* Families of days, written as new claim files from a fixed seed. */
+/* Families of days, written as new claim files of the week layout from a fixed seed. */
 #ifndef DAYS_H
 #define DAYS_H
 
@@ -11,7 +11,10 @@ enum { DAYS = 6 /* of each family and size */ };
 
 extern const char *const family_names[FAMILIES];
 
-/* Day `number` of a family, with `rows` claims (2 or more) and rows / 2 groups in each section. */
+/* Day `number` of a family, with `rows` claims (2 or more) and rows / 2 groups in each section, as tables. */
+struct day tables_of(unsigned family, unsigned rows, unsigned number);
+
+/* Its file, in which every limit is the same on all weekdays. */
 void make_day(unsigned family, unsigned rows, unsigned number, struct file *file);
 
 #endif

@@ -3,51 +3,56 @@
 
 static uint32_t sheet[MOST_MARKS], scratch[8 * MOST_MARKS];
 
-static void settle_by(const struct sort *by, const uint8_t *file, size_t length, struct outcome *out) {
-    struct claims_settle_answer r = by->settle(file, length, out->choice, MOST_ROWS, sheet, MOST_MARKS, scratch, 8 * MOST_MARKS);
+static void settle_by(claims_settle_call *settle, unsigned weekday, const uint8_t *file, size_t length, struct outcome *out) {
+    struct claims_settle_answer r = settle(file, length, weekday, out->choice, MOST_ROWS, sheet, MOST_MARKS, scratch, 8 * MOST_MARKS);
     out->refusal = r.refusal;
     out->earned = (unsigned)r.earned;
     out->kept = (unsigned)r.kept;
 }
 
-void ours_settle(const uint8_t *file, size_t length, struct outcome *out) { settle_by(&sorts[NEW], file, length, out); }
+void ours_settle(const uint8_t *file, size_t length, struct outcome *out) { settle_by(claims_settle, 0, file, length, out); }
 
-void ours_settle_stored(const uint8_t *file, size_t length, struct outcome *out) { settle_by(&sorts[STORED], file, length, out); }
+void ours_settle_by(const struct sort *by, unsigned weekday, const struct file *file, struct outcome *out) {
+    settle_by(by->settle, weekday, file->bytes, file->length, out);
+}
 
 unsigned ours_codes(const uint8_t *file, size_t length, uint8_t *codes) {
-    return claims_write_codes(file, length, codes, MOST_ROWS, scratch, 8 * MOST_MARKS).refusal;
+    return claims_write_codes(file, length, 0, codes, MOST_ROWS, scratch, 8 * MOST_MARKS).refusal;
 }
 
 /* With no memory lent, settle judges the file and then answers that the memory is short; with no group and no row none is needed. */
 unsigned ours_judge(const uint8_t *file, size_t length) {
-    unsigned refusal = claims_settle(file, length, (uint8_t *)sheet, 0, sheet, 0, scratch, 0).refusal;
+    unsigned refusal = claims_settle(file, length, 0, (uint8_t *)sheet, 0, sheet, 0, scratch, 0).refusal;
     return refusal == CLAIMS_SHORT ? 0 : refusal;
 }
 
-struct plain_rank ours_fits_and_rank(const uint8_t *file, size_t length, const uint8_t *selection, size_t selected, unsigned side) {
-    struct claims_fits_and_rank_answer r = claims_fits_and_rank(file, length, selection, selected, side);
+struct plain_rank ours_fits_and_rank(const uint8_t *file, size_t length, const uint8_t *selection, size_t selected, unsigned side,
+                                     unsigned weekday) {
+    struct claims_fits_and_rank_answer r = claims_fits_and_rank(file, length, selection, selected, side, weekday);
     return (struct plain_rank){r.refusal, r.fits, r.rank};
 }
 
 /* ---- every call ---- */
 
+enum { DAY_NAMED = WEEKDAYS - 1 };
+
 static void make_settle(const struct sort *by, const struct file *day, const uint8_t *selection) {
     static uint8_t choice[MOST_ROWS];
     (void)selection;
-    by->settle(day->bytes, day->length, choice, MOST_ROWS, sheet, MOST_MARKS, scratch, 8 * MOST_MARKS);
+    by->settle(day->bytes, day->length, DAY_NAMED, choice, MOST_ROWS, sheet, MOST_MARKS, scratch, 8 * MOST_MARKS);
 }
 
 static void make_fits_and_rank(const struct sort *by, const struct file *day, const uint8_t *selection) {
-    for (unsigned side = 0; side < 2; side++) by->fits_and_rank(day->bytes, day->length, selection, MOST_ROWS, side);
+    for (unsigned side = 0; side < 2; side++) by->fits_and_rank(day->bytes, day->length, selection, MOST_ROWS, side, DAY_NAMED);
 }
 
 static void make_spare_places(const struct sort *by, const struct file *day, const uint8_t *selection) {
-    for (unsigned row = 0; row < MOST_ROWS; row++) by->spare_places(day->bytes, day->length, selection, MOST_ROWS, row);
+    for (unsigned row = 0; row < MOST_ROWS; row++) by->spare_places(day->bytes, day->length, selection, MOST_ROWS, row, DAY_NAMED);
 }
 
 static void make_slip(const struct sort *by, const struct file *day, const uint8_t *selection) {
     static uint8_t slip[CLAIMS_LONGEST_SLIP];
-    by->write_slip(day->bytes, day->length, selection, MOST_ROWS, slip, CLAIMS_LONGEST_SLIP);
+    by->write_slip(day->bytes, day->length, selection, MOST_ROWS, DAY_NAMED, slip, CLAIMS_LONGEST_SLIP);
 }
 
 static void make_canonical(const struct sort *by, const struct file *day, const uint8_t *selection) {
@@ -59,7 +64,7 @@ static void make_canonical(const struct sort *by, const struct file *day, const 
 static void make_codes(const struct sort *by, const struct file *day, const uint8_t *selection) {
     static uint8_t codes[CLAIMS_LONGEST_CODES];
     (void)selection;
-    by->write_codes(day->bytes, day->length, codes, CLAIMS_LONGEST_CODES, scratch, 8 * MOST_MARKS);
+    by->write_codes(day->bytes, day->length, DAY_NAMED, codes, CLAIMS_LONGEST_CODES, scratch, 8 * MOST_MARKS);
 }
 
 static void make_version(const struct sort *by, const struct file *day, const uint8_t *selection) {
@@ -68,7 +73,11 @@ static void make_version(const struct sort *by, const struct file *day, const ui
 }
 
 /* The lines of a call on a file, one for each sort. */
-#define EACH_SORT(name, make) {name, make, &sorts[NEW]}, {name "_stored", make, &sorts[STORED]}
+#define EACH_SORT(name, make)                               \
+    {name, make, &sorts[NEW_WEEK]},                         \
+    {name "_stored", make, &sorts[STORED_WEEK]},            \
+    {name "_old", make, &sorts[NEW_OLD]},                   \
+    {name "_old_stored", make, &sorts[STORED_OLD]}
 
 const struct call calls[] = {
     EACH_SORT("claims_settle", make_settle),

@@ -77,7 +77,7 @@ static void keep_across(const struct network *n, uint8_t *choice) {
 void flow_settle(const uint8_t *file, size_t length, struct outcome *out) {
     struct day d;
     struct network n;
-    out->refusal = read_day(file, length, NEW, &d);
+    out->refusal = read_day(file, length, week_file, &d);
     if (out->refusal) return;
     build_network(&n, &d, 1);
     memset(out->choice, 0, d.rows);

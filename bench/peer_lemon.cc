@@ -48,7 +48,7 @@ void order_arcs(int nodes, const std::vector<Arc> &arcs, std::vector<Arc> &order
 
 extern "C" void lemon_settle(const uint8_t *file, size_t length, struct outcome *out) {
     struct day d;
-    out->refusal = read_day(file, length, NEW, &d);
+    out->refusal = read_day(file, length, week_file, &d);
     if (out->refusal) return;
     int nodes = d.groups[0] + d.groups[1] + 2;
     std::vector<Arc> arcs;

@@ -209,7 +209,7 @@ void simplex_settle(const uint8_t *file, size_t length, struct outcome *out) {
     struct day d;
     struct simplex s;
     struct network n;
-    out->refusal = read_day(file, length, NEW, &d);
+    out->refusal = read_day(file, length, week_file, &d);
     if (out->refusal) return;
     s.groups = d.groups[0] + d.groups[1];
     s.arcs = s.groups + d.rows + 1;

@@ -1,18 +1,27 @@
 /* A plain judge of files, and plain ranks. */
 #include "plain.h"
 
+enum { WIDTH = 2 + 2 * WEEKDAYS }; /* bytes of a group record */
+
+/* Whether a limit of a group record is above that of its parent's record. */
+static inline int has_above(const uint8_t *own, const uint8_t *parent) {
+    for (unsigned k = 1; k <= WEEKDAYS; k++)
+        if (get16(own + 2 * k) > get16(parent + 2 * k)) return 1;
+    return 0;
+}
+
 /* The first fault of a group section that starts at *at, where its count is left behind. */
 static unsigned judge_groups(const uint8_t *file, size_t length, size_t *at, unsigned *count) {
     if (length - *at < 2) return 1;
     unsigned groups = *count = get16(file + *at);
     if (groups > MOST_GROUPS) return 2;
     size_t start = *at += 2;
-    for (unsigned g = 0; g < groups; g++, *at += 4) {
-        if (length - *at < 4) return 1;
+    for (unsigned g = 0; g < groups; g++, *at += WIDTH) {
+        if (length - *at < WIDTH) return 1;
         unsigned parent = get16(file + *at);
         if (parent == TOP) continue;
         if (parent >= g) return 3;
-        if (get16(file + *at + 2) > get16(file + start + 4 * parent + 2)) return 11;
+        if (has_above(file + *at, file + start + WIDTH * parent)) return 11;
     }
     return 0;
 }
@@ -34,9 +43,10 @@ unsigned plain_judge(const uint8_t *file, size_t length) {
     return at < length ? 7 : 0;
 }
 
-/* The number of a fault in the selection or the side, or 0. */
-static unsigned judge_selection(const struct day *d, const uint8_t *selection, size_t selected, unsigned side) {
+/* The number of a fault in the selection, the weekday or the side, or 0. */
+static unsigned judge_selection(const struct day *d, const uint8_t *selection, size_t selected, unsigned side, unsigned weekday) {
     if (selected < d->rows) return 8;
+    if (weekday >= WEEKDAYS) return 12;
     for (unsigned c = 0; c < d->rows; c++)
         if (selection[c] > 1) return 9;
     return side > 1 ? 9 : 0;
@@ -44,19 +54,22 @@ static unsigned judge_selection(const struct day *d, const uint8_t *selection, s
 
 /* The rank by one of the ways of day.h, where nothing is to be refused. */
 static struct plain_rank judged_rank(const uint8_t *file, size_t length, const uint8_t *selection, size_t selected, unsigned side,
-                                     struct ranked (*way)(const struct day *, unsigned, const uint8_t *)) {
+                                     unsigned weekday, struct ranked (*way)(const struct day *, unsigned, const uint8_t *)) {
     struct day d;
-    unsigned fault = read_day(file, length, NEW, &d);
-    if (!fault) fault = judge_selection(&d, selection, selected, side);
+    struct form form = {WEEK, NEW, weekday < WEEKDAYS ? weekday : 0};
+    unsigned fault = read_day(file, length, form, &d);
+    if (!fault) fault = judge_selection(&d, selection, selected, side, weekday);
     if (fault) return (struct plain_rank){fault, 0, 0};
     struct ranked r = way(&d, side, selection);
     return (struct plain_rank){0, r.fits, r.rank};
 }
 
-struct plain_rank plain_fits_and_rank(const uint8_t *file, size_t length, const uint8_t *selection, size_t selected, unsigned side) {
-    return judged_rank(file, length, selection, selected, side, rank_side);
+struct plain_rank plain_fits_and_rank(const uint8_t *file, size_t length, const uint8_t *selection, size_t selected, unsigned side,
+                                      unsigned weekday) {
+    return judged_rank(file, length, selection, selected, side, weekday, rank_side);
 }
 
-struct plain_rank greedy_fits_and_rank(const uint8_t *file, size_t length, const uint8_t *selection, size_t selected, unsigned side) {
-    return judged_rank(file, length, selection, selected, side, rank_greedily);
+struct plain_rank greedy_fits_and_rank(const uint8_t *file, size_t length, const uint8_t *selection, size_t selected, unsigned side,
+                                       unsigned weekday) {
+    return judged_rank(file, length, selection, selected, side, weekday, rank_greedily);
 }

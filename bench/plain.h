@@ -1,4 +1,7 @@
-/* A new claim file judged by plain C, and fits and rank by plain C. The plain reader into tables is read_day of day.h. */
+/*
+ * A new claim file of the week layout judged by plain C, and fits and rank by plain C. The plain reader into tables is read_day of day.h;
+ * it takes the limits of one weekday into the tables, and both readers judge the limits of all seven.
+ */
 #ifndef PLAIN_H
 #define PLAIN_H
 
@@ -11,10 +14,12 @@ struct plain_rank {
 /* 0, or the number of the first fault: what read_day answers, without the tables. */
 unsigned plain_judge(const uint8_t *file, size_t length);
 
-/* Whether a selection fits a side, and its rank there, by rank_side of day.h. */
-struct plain_rank plain_fits_and_rank(const uint8_t *file, size_t length, const uint8_t *selection, size_t selected, unsigned side);
+/* Whether a selection fits a side by the limits of a weekday, and its rank there, by rank_side of day.h. */
+struct plain_rank plain_fits_and_rank(const uint8_t *file, size_t length, const uint8_t *selection, size_t selected, unsigned side,
+                                      unsigned weekday);
 
 /* The same by rank_greedily of day.h. */
-struct plain_rank greedy_fits_and_rank(const uint8_t *file, size_t length, const uint8_t *selection, size_t selected, unsigned side);
+struct plain_rank greedy_fits_and_rank(const uint8_t *file, size_t length, const uint8_t *selection, size_t selected, unsigned side,
+                                       unsigned weekday);
 
 #endif

@@ -28,21 +28,18 @@ static void make_on_paint(void) {
     swapcontext(&home, &away);
 }
 
-/* With no row selected, with the rows that settle keeps, and with all rows. */
-static void make_on_day(void) {
+/* In the layout that the call takes, with no row selected, with the rows that settle keeps, and with all rows. */
+static void make_on_day(const struct day *d) {
     static struct outcome kept;
-    ours_settle_stored(day.bytes, day.length, &kept);
+    unsigned layout = made->by == NULL ? WEEK : made->by->layout;
+    write_day(d, layout, &day);
+    ours_settle_by(&sorts[layout == WEEK ? STORED_WEEK : STORED_OLD], 0, &day, &kept);
     memset(selection, 0, sizeof selection);
     make_on_paint();
     memcpy(selection, kept.choice, sizeof selection);
     make_on_paint();
     memset(selection, 1, sizeof selection);
     make_on_paint();
-}
-
-static void make_on_chain(const struct day *d) {
-    write_day(d, &day);
-    make_on_day();
 }
 
 /*
@@ -54,16 +51,16 @@ static void make_on_chains(void) {
     for (unsigned k = 0; k < sizeof limits / sizeof *limits; k++) {
         struct day d = chain_day(limits[k]), high = chain_day(TOP);
         for (unsigned side = 0; side < 2; side++) high.limit[side][0] = d.limit[side][0];
-        make_on_chain(&d);
-        make_on_chain(&high);
+        make_on_day(&d);
+        make_on_day(&high);
     }
 }
 
 static void make_on_days(void) {
     for (unsigned family = 0; family < FAMILIES; family++)
         for (unsigned number = 0; number < DAYS; number++) {
-            make_day(family, MOST_ROWS, number, &day);
-            make_on_day();
+            struct day d = tables_of(family, MOST_ROWS, number);
+            make_on_day(&d);
         }
 }
 

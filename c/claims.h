@@ -1,11 +1,32 @@
 /*
  * A day of bread claims: the calls for the till's own program. c/example.c is a whole program that uses them.
  *
- * There are two sorts of file, and each call on a file stands here twice, with the same arguments and the same form of answer. The plain
- * name takes a new file, in which no group's limit may be above its parent's. The same name with _stored at its end takes a stored file,
- * one taken from the shelf, which was written when any limit was allowed. Its limits are lowered: from the first group to the last, each
- * limit that is above its parent's is read as its parent's, which is lowered already by then. So a group with limit 40 in a group with
- * limit 20 is read with limit 20. A new file may be given to either call, and the answer is the same.
+ * The claim file has three sections, each after its count: card groups, shop groups and claims. Every count and field is unsigned and 16
+ * bits wide, low byte first, except the kind, which is one byte. Groups are numbered from 0 within their section, and claims, the file's
+ * rows, from 0 too.
+ *
+ *     group record, week layout   16 bytes: parent, then seven limits, for days 0 to 6
+ *     group record, old layout     4 bytes: parent, then one limit
+ *     claim record                 5 bytes: card group, shop group, kind (0 ordinary, 1 earned)
+ *
+ * A parent is a smaller group number of the same section, or 65535 for a group at the top. A limit is any number from 0 to 65535.
+ *
+ * A call names the day, 0 to 6, and a group's limit is that day's. The canonical form alone is that of the whole week and names none. A
+ * file in the old layout acts as one in the week layout that has each limit seven times: its answers are the same on every day.
+ *
+ * There are four sorts of file, and each call on a file stands here four times, with the same arguments and the same form of answer. What
+ * stands at the end of its name says which sort it takes:
+ *
+ *     nothing        a new file in the week layout
+ *     _stored        a stored file in the week layout
+ *     _old           a new file in the old layout
+ *     _old_stored    a stored file in the old layout
+ *
+ * In a new file no group's limit may be above its parent's, on any of the seven days, whichever is named. A stored file is one taken from
+ * the shelf, which was written when any limit was allowed. Its limits are lowered, on each day by itself: from the first group to the
+ * last, each limit that is above its parent's is read as its parent's, which is lowered already by then. So a group with limit 40 in a
+ * group with limit 20 is read with limit 20. A new file may be given to the call for stored files of its layout, and the answer is the
+ * same.
  *
  * Each claim names a card group and a shop group. On the shop side it counts in the group that it names and in every group above that one.
  * On the card side an ordinary claim does so too; an earned claim does not count in the card group that it names, only in the groups above
@@ -15,9 +36,9 @@
  * address. Of the C library it needs memset and memcpy at most. It has no variables of its own and uses no heap; docs/PERFORMANCE.md says
  * how much code it has and how much stack it takes.
  *
- * The calls keep no state. Only claims_settle, claims_write_slip, claims_write_canonical and claims_write_codes, and the calls for stored
- * files beside these, change memory that is lent to them, and only where they answer no refusal. Calls may be made from several threads at
- * once, where what they are lent to change is not shared.
+ * The calls keep no state. Only settle, the slip, the canonical form and the codes, for each sort of file, change memory that is lent to
+ * them, and only where they answer no refusal. Calls may be made from several threads at once, where what they are lent to change is not
+ * shared.
  *
  * A pointer must not be null, even where the length beside it is 0, and as many elements must stand there as the length says. Buffers
  * that are lent to one call do not overlap.
@@ -36,40 +57,48 @@ extern "C" {
  * The version: which library this header describes. It rises by one with each release that changes a call, a needed length or an answer.
  * claims_version() tells the version of the library that a program is linked with.
  */
-#define CLAIMS_VERSION 7u
+#define CLAIMS_VERSION 8u
 
 /* The most that a file may hold. */
-#define CLAIMS_MOST_GROUPS 256u   /* in one section, card groups or shop groups */
-#define CLAIMS_MOST_CLAIMS 512u   /* rows */
-#define CLAIMS_LONGEST_FILE 4614u /* bytes: all three sections are full */
+#define CLAIMS_MOST_GROUPS 256u       /* in one section, card groups or shop groups */
+#define CLAIMS_MOST_CLAIMS 512u       /* rows */
+#define CLAIMS_LONGEST_FILE 10758u    /* bytes in the week layout: all three sections are full */
+#define CLAIMS_LONGEST_FILE_OLD 4614u /* the same in the old layout */
+
+/* How many days a week has. A day is a number below it. */
+#define CLAIMS_DAYS 7u
+
+/* How many bytes a file has in the week layout, and in the old one. `groups` and `claims` are as below. */
+#define CLAIMS_FILE_LENGTH(groups, claims) (6u + 16u * (groups) + 5u * (claims))
+#define CLAIMS_FILE_LENGTH_OLD(groups, claims) (6u + 4u * (groups) + 5u * (claims))
 
 /*
  * The lengths that a call needs, counted in elements: bytes of a selection, of the choice, of the slip, of the canonical file and of the
- * codes, numbers of 32 bits of the sheet and of the scratch. `claims` is the file's number of claims, `groups` that of its card groups and
- * shop groups together, `kept` that of the selection's bytes that are 1, and `file_length` that of the file's bytes.
+ * codes, numbers of 32 bits of the sheet and of the scratch. They are the same for all sorts of file. `claims` is the file's number of
+ * claims, `groups` that of its card groups and shop groups together, and `kept` that of the selection's bytes that are 1.
  */
 #define CLAIMS_SELECTION_LENGTH(claims) (claims)
 #define CLAIMS_CHOICE_LENGTH(claims) (claims)
 #define CLAIMS_SHEET_LENGTH(groups, claims) ((groups) + (claims))
 #define CLAIMS_SCRATCH_LENGTH(groups, claims) (8u * ((groups) + (claims)))
 #define CLAIMS_SLIP_LENGTH(kept) (33u * ((kept) + 1u))
-#define CLAIMS_CANONICAL_LENGTH(file_length) (file_length)
+#define CLAIMS_CANONICAL_LENGTH(groups, claims) CLAIMS_FILE_LENGTH(groups, claims)
 #define CLAIMS_CODES_LENGTH(claims) (claims)
 
-/* The same at most: buffers of these lengths serve every file. */
+/* The needed lengths at most: buffers of these lengths serve every file. */
 #define CLAIMS_LONGEST_SELECTION 512u
 #define CLAIMS_LONGEST_CHOICE 512u
 #define CLAIMS_LONGEST_SHEET 1024u
 #define CLAIMS_LONGEST_SCRATCH 8192u
 #define CLAIMS_LONGEST_SLIP 16929u
-#define CLAIMS_LONGEST_CANONICAL 4614u
+#define CLAIMS_LONGEST_CANONICAL 10758u
 #define CLAIMS_LONGEST_CODES 512u
 
 /* The two sides of a day. */
 #define CLAIMS_CARD 0u
 #define CLAIMS_SHOP 1u
 
-/* The codes of rows. claims_write_codes says what they mean. */
+/* The codes of rows. The section on the codes says what they mean. */
 #define CLAIMS_CODE_ORDINARY 0u /* the row is ordinary */
 #define CLAIMS_CODE_SHOP 1u     /* an earned row that shop limits hold */
 #define CLAIMS_CODE_CARD 2u     /* an earned row that card limits hold */
@@ -78,7 +107,7 @@ extern "C" {
 /*
  * Why a call is turned away: the numbers of documents 01 and 02. The file is judged first, from its front, and the first fault met is the
  * one told (1 to 7, and 11). Of one group record 3 is judged first and then 11; the calls for stored files do not judge 11. Then comes the
- * length of the selection or of the lent buffers (8), then the values (9), and 10 is judged last.
+ * length of the selection or of the lent buffers (8), then the day (12), then the values (9), and 10 is judged last.
  */
 #define CLAIMS_CUT_OFF 1u       /* the file ends before or inside a count or record that is due */
 #define CLAIMS_GROUP_COUNT 2u   /* a group count is over 256 */
@@ -90,22 +119,23 @@ extern "C" {
 #define CLAIMS_SHORT 8u         /* a lent buffer or selection is shorter than needed */
 #define CLAIMS_VALUE 9u         /* a selection byte is over 1, the side is over 1, or the row is not below the number of claims */
 #define CLAIMS_SELECTED 10u     /* spare places only: the row is already in the selection */
-#define CLAIMS_LIMIT_ABOVE 11u  /* new files only: a group's limit is above its parent's */
+#define CLAIMS_LIMIT_ABOVE 11u  /* new files only: a group's limit is above its parent's on any of the seven days */
+#define CLAIMS_DAY 12u          /* every call but the canonical form: the day is over 6 */
 
-/* What claims_fits_and_rank answers. */
+/* What fits and rank answers. */
 struct claims_fits_and_rank_answer {
     uint32_t refusal; /* 0, or the number of the reason why the call is turned away; the other fields are 0 then */
     uint32_t fits;    /* 1 where no group of the side counts more of the selected rows than its limit, else 0 */
     uint32_t rank;    /* how many of the selected rows fit the side together, at most */
 };
 
-/* What claims_spare_places answers. */
+/* What spare places answers. */
 struct claims_spare_places_answer {
     uint32_t refusal; /* 0, or the number of the reason why the call is turned away; the other field is 0 then */
     uint32_t places;  /* how many further claims like the row would fit beside the selection, 0 to 65535 */
 };
 
-/* What claims_settle answers. */
+/* What settle answers. */
 struct claims_settle_answer {
     uint32_t refusal; /* 0, or the number of the reason why the call is turned away; the other fields are 0 then */
     uint64_t earned;  /* how many of the kept rows are earned */
@@ -113,19 +143,19 @@ struct claims_settle_answer {
     uint64_t total;   /* the sheet's total, which is the weight of the kept rows */
 };
 
-/* What claims_write_slip answers. */
+/* What the slip answers. */
 struct claims_write_slip_answer {
     uint32_t refusal; /* 0, or the number of the reason why the call is turned away; the other field is 0 then */
     uint64_t length;  /* how many bytes were written: 33 for each kept row and for the first line */
 };
 
-/* What claims_write_canonical answers. */
+/* What the canonical form answers. */
 struct claims_write_canonical_answer {
     uint32_t refusal; /* 0, or the number of the reason why the call is turned away; the other field is 0 then */
-    uint64_t length;  /* how many bytes were written, at most as many as the file has */
+    uint64_t length;  /* how many bytes were written, at most as many as the file would have in the week layout */
 };
 
-/* What claims_write_codes answers. */
+/* What the codes answer. */
 struct claims_write_codes_answer {
     uint32_t refusal; /* 0, or the number of the reason why the call is turned away; the other field is 0 then */
     uint64_t length;  /* how many bytes were written: one for each claim */
@@ -135,64 +165,85 @@ struct claims_write_codes_answer {
 uint32_t claims_version(void);
 
 /*
- * Whether a selection of a file's rows fits a side, and its rank there. For a stored file both are the same by the limits as they stand in
- * it and by the lowered ones.
+ * Each of the six sections that follow is one call. It says what the call does and what its arguments are; then comes its form as a type,
+ * which ends in _call, and then a line for each sort of file. The line `claims_settle_call claims_settle_old;` declares the function
+ * claims_settle_old with the arguments and the answer of the type claims_settle_call.
+ */
+
+/* ---- Fits and rank ---- */
+
+/*
+ * Whether a selection of a file's rows fits a side by the limits of a day, and its rank there. For a stored file both are the same by the
+ * limits as they stand in it and by the lowered ones.
  *
  * file, file_length              the claim file
  * selection, selection_length    one byte a row: 1 where the row is selected, else 0. Bytes past the last row are not read
  * side                           CLAIMS_CARD or CLAIMS_SHOP
+ * day                            0 to 6
  */
-struct claims_fits_and_rank_answer claims_fits_and_rank(
+typedef struct claims_fits_and_rank_answer claims_fits_and_rank_call(
     const uint8_t *file, size_t file_length,
     const uint8_t *selection, size_t selection_length,
-    uint32_t side);
-struct claims_fits_and_rank_answer claims_fits_and_rank_stored(
-    const uint8_t *file, size_t file_length,
-    const uint8_t *selection, size_t selection_length,
-    uint32_t side);
+    uint32_t side,
+    uint32_t day);
+claims_fits_and_rank_call claims_fits_and_rank;
+claims_fits_and_rank_call claims_fits_and_rank_stored;
+claims_fits_and_rank_call claims_fits_and_rank_old;
+claims_fits_and_rank_call claims_fits_and_rank_old_stored;
+
+/* ---- Spare places ---- */
 
 /*
- * How many further claims like a row would fit beside a selection of a file's rows: the smallest, over all groups that the row counts in
- * on both sides, of the group's limit less the selected rows that count there. Where the row counts in no card group, its shop groups alone
- * decide. It is 0 where the selection itself does not fit both sides. A number of 1 or more says that the selection with the row added fits
- * both sides, and 0 that it does not. For a stored file it is the same by the limits as they stand in it and by the lowered ones.
+ * How many further claims like a row would fit beside a selection of a file's rows by the limits of a day: the smallest, over all groups
+ * that the row counts in on both sides, of the group's limit less the selected rows that count there. Where the row counts in no card
+ * group, its shop groups alone decide. It is 0 where the selection itself does not fit both sides. A number of 1 or more says that the
+ * selection with the row added fits both sides, and 0 that it does not. For a stored file it is the same by the limits as they stand in it
+ * and by the lowered ones.
  *
  * file, file_length              the claim file
  * selection, selection_length    one byte a row, as above
  * row                            a row that is not selected, counted from 0; for one that is selected the answer is refusal 10
+ * day                            0 to 6
  */
-struct claims_spare_places_answer claims_spare_places(
+typedef struct claims_spare_places_answer claims_spare_places_call(
     const uint8_t *file, size_t file_length,
     const uint8_t *selection, size_t selection_length,
-    uint32_t row);
-struct claims_spare_places_answer claims_spare_places_stored(
-    const uint8_t *file, size_t file_length,
-    const uint8_t *selection, size_t selection_length,
-    uint32_t row);
+    uint32_t row,
+    uint32_t day);
+claims_spare_places_call claims_spare_places;
+claims_spare_places_call claims_spare_places_stored;
+claims_spare_places_call claims_spare_places_old;
+claims_spare_places_call claims_spare_places_old_stored;
+
+/* ---- Settle ---- */
 
 /*
- * Settles a file: which claims are kept, with the sheet of marks that shows that no choice is better. With N claims and G groups, card
- * and shop groups together, the needed lengths are as said below. Longer buffers are accepted; what lies past the needed length is
- * neither read nor changed. What the buffers hold before does not matter. Where a refusal is answered, no buffer is changed.
+ * Settles a file by the limits of a day: which claims are kept, with the sheet of marks that shows that no choice is better. With N claims
+ * and G groups, card and shop groups together, the needed lengths are as said below. Longer buffers are accepted; what lies past the
+ * needed length is neither read nor changed. What the buffers hold before does not matter. Where a refusal is answered, no buffer is
+ * changed.
  *
  * Of a stored file the kept rows are the same by the limits as they stand in it and by the lowered ones. The marks and the total are those
  * of the lowered limits: whoever adds up the sheet takes each group's lowered limit, since with a higher one the sum may be too great.
  *
  * file, file_length         the claim file
+ * day                       0 to 6
  * choice, choice_length     N bytes at least: afterwards 1 for each kept row and 0 for each other row
  * sheet, sheet_length       G + N numbers at least: afterwards the marks, of the card groups, the shop groups and the claims
  * scratch, scratch_length   8 * (G + N) numbers at least: afterwards zero
  */
-struct claims_settle_answer claims_settle(
+typedef struct claims_settle_answer claims_settle_call(
     const uint8_t *file, size_t file_length,
+    uint32_t day,
     uint8_t *choice, size_t choice_length,
     uint32_t *sheet, size_t sheet_length,
     uint32_t *scratch, size_t scratch_length);
-struct claims_settle_answer claims_settle_stored(
-    const uint8_t *file, size_t file_length,
-    uint8_t *choice, size_t choice_length,
-    uint32_t *sheet, size_t sheet_length,
-    uint32_t *scratch, size_t scratch_length);
+claims_settle_call claims_settle;
+claims_settle_call claims_settle_stored;
+claims_settle_call claims_settle_old;
+claims_settle_call claims_settle_old_stored;
+
+/* ---- The slip ---- */
 
 /*
  * Writes the slip for the counter, a text for a roll of 32 columns: which rows a selection keeps. The selection need not fit any limit.
@@ -204,42 +255,54 @@ struct claims_settle_answer claims_settle_stored(
  *            0       0       0  EARNED
  *            1       0       1   PLAIN
  *
- * The length of the selection and that of the slip are judged (8) before the selection's bytes (9). A longer slip is accepted; what lies
- * past the written length is neither read nor changed. Where a refusal is answered, no byte is changed.
+ * The length of the selection and that of the slip are judged first (8), then the day (12), which the text does not show, and then the
+ * selection's bytes (9). A longer slip is accepted; what lies past the written length is neither read nor changed. Where a refusal is
+ * answered, no byte is changed.
  *
  * file, file_length              the claim file
  * selection, selection_length    one byte a row: 1 where the row is kept, else 0. Bytes past the last row are not read
+ * day                            0 to 6
  * slip, slip_length              CLAIMS_SLIP_LENGTH(kept) bytes at least, where kept is how many bytes of the selection, one a row, are 1
  */
-struct claims_write_slip_answer claims_write_slip(
+typedef struct claims_write_slip_answer claims_write_slip_call(
     const uint8_t *file, size_t file_length,
     const uint8_t *selection, size_t selection_length,
+    uint32_t day,
     uint8_t *slip, size_t slip_length);
-struct claims_write_slip_answer claims_write_slip_stored(
-    const uint8_t *file, size_t file_length,
-    const uint8_t *selection, size_t selection_length,
-    uint8_t *slip, size_t slip_length);
+claims_write_slip_call claims_write_slip;
+claims_write_slip_call claims_write_slip_stored;
+claims_write_slip_call claims_write_slip_old;
+claims_write_slip_call claims_write_slip_old_stored;
+
+/* ---- The canonical form ---- */
 
 /*
  * Writes the canonical form of a file: one file for all that differ only in how their groups are numbered and in groups that no claim
  * uses. A claim uses the groups that it names and all groups above these, be it earned or not. Groups that no claim uses are dropped. The
  * others are numbered by the lowest row that uses them, a parent before its child where these are equal. Rows keep their order and kinds.
- * Two files give the same bytes exactly where they are the same day in this sense. The written file is accepted by every call, and settled
- * it keeps the same rows. A stored file is compared and written with its limits lowered, so that what is written is a new file. A longer
- * buffer is accepted; what lies past the written length is neither read nor changed. Where a refusal is answered, no byte is changed.
+ * The form is in the week layout, whatever the layout of the file, and has the limits of all seven days; no day is named. Two files give
+ * the same bytes exactly where they are the same week in this sense, be they of one layout or of two. The written file is accepted by
+ * every call for the week layout, and settled it keeps the same rows on each day. A stored file is compared and written with its limits
+ * lowered, so that what is written is a new file. A longer buffer is accepted; what lies past the written length is neither read nor
+ * changed. Where a refusal is answered, no byte is changed.
  *
  * file, file_length              the claim file
- * canonical, canonical_length    CLAIMS_CANONICAL_LENGTH(file_length) bytes at least, as many as the file has
+ * canonical, canonical_length    CLAIMS_CANONICAL_LENGTH(groups, claims) bytes at least: as many as the file has, or would have in the
+ *                                week layout
  */
-struct claims_write_canonical_answer claims_write_canonical(
+typedef struct claims_write_canonical_answer claims_write_canonical_call(
     const uint8_t *file, size_t file_length,
     uint8_t *canonical, size_t canonical_length);
-struct claims_write_canonical_answer claims_write_canonical_stored(
-    const uint8_t *file, size_t file_length,
-    uint8_t *canonical, size_t canonical_length);
+claims_write_canonical_call claims_write_canonical;
+claims_write_canonical_call claims_write_canonical_stored;
+claims_write_canonical_call claims_write_canonical_old;
+claims_write_canonical_call claims_write_canonical_old_stored;
+
+/* ---- The codes ---- */
 
 /*
- * Writes a code for each row of a file. For an earned row that claims_settle turns down it says which limits to raise:
+ * Writes a code for each row of a file. For an earned row that settle turns down on the same day it says which of that day's limits to
+ * raise:
  *
  *     1   a shop limit. Where the limit of each shop group that the row counts in is raised by one, one earned row more is kept
  *     2   a card limit. The same is true of the card groups that the row counts in, which are those above the one that it names
@@ -253,25 +316,27 @@ struct claims_write_canonical_answer claims_write_canonical_stored(
  * 3 together. However far shop limits alone are raised, no more rows with code 2 are kept, and no more with codes 2 and 3 together. Where
  * no row has code 1, shop limits alone bring no earned row more; where none has code 2, card limits alone bring none.
  *
- * An ordinary row has code 0, and an earned row that is kept has one of the others too. The codes come from a largest choice of earned rows
- * that fits both sides and are the same whichever is taken, so that they depend neither on row order nor on ordinary rows. For a stored
- * file they are the same by the limits as they stand in it and by the lowered ones.
+ * An ordinary row has code 0, and an earned row that is kept has one of the others too. The codes come from a largest choice of earned
+ * rows that fits both sides and are the same whichever is taken, so that they depend neither on row order nor on ordinary rows. For a
+ * stored file they are the same by the limits as they stand in it and by the lowered ones.
  *
  * Longer buffers are accepted; what lies past the needed length is neither read nor changed. What the buffers hold before does not matter.
  * Where a refusal is answered, no buffer is changed.
  *
  * file, file_length         the claim file
+ * day                       0 to 6
  * codes, codes_length       CLAIMS_CODES_LENGTH(claims) bytes at least: afterwards the code of each row
- * scratch, scratch_length   CLAIMS_SCRATCH_LENGTH(groups, claims) numbers at least, as for claims_settle: afterwards zero
+ * scratch, scratch_length   CLAIMS_SCRATCH_LENGTH(groups, claims) numbers at least, as for settle: afterwards zero
  */
-struct claims_write_codes_answer claims_write_codes(
+typedef struct claims_write_codes_answer claims_write_codes_call(
     const uint8_t *file, size_t file_length,
+    uint32_t day,
     uint8_t *codes, size_t codes_length,
     uint32_t *scratch, size_t scratch_length);
-struct claims_write_codes_answer claims_write_codes_stored(
-    const uint8_t *file, size_t file_length,
-    uint8_t *codes, size_t codes_length,
-    uint32_t *scratch, size_t scratch_length);
+claims_write_codes_call claims_write_codes;
+claims_write_codes_call claims_write_codes_stored;
+claims_write_codes_call claims_write_codes_old;
+claims_write_codes_call claims_write_codes_old_stored;
 
 #ifdef __cplusplus
 }

@@ -7,18 +7,38 @@
 
 /* ---- The day and its file ---- */
 
+const unsigned no_weekdays[NO_WEEKDAYS] = {WEEKDAYS, WEEKDAYS + 1, UINT8_MAX + 1, TOP + 1, UINT32_MAX};
+
+/* The day with limits that are drawn at random. */
+static struct day with_other_limits(const struct day *d) {
+    struct day other = *d;
+    for (unsigned side = 0; side < 2; side++) draw_limits(&other, side, 1 + d->rows / 4);
+    return other;
+}
+
 uint8_t *put16(uint8_t *at, unsigned x) {
     at[0] = (uint8_t)x;
     at[1] = (uint8_t)(x >> 8);
     return at + 2;
 }
 
-void write_day(const struct day *d, struct file *f) {
-    uint8_t *at = f->bytes;
-    for (int side = 0; side < 2; side++) {
-        at = put16(at, d->groups[side]);
-        for (unsigned g = 0; g < d->groups[side]; g++) at = put16(put16(at, d->parent[side][g]), d->limit[side][g]);
+/* How many limits stand in a group record. */
+static unsigned limits_in(unsigned layout) { return layout == WEEK ? WEEKDAYS : 1; }
+
+/* One group section of a week that is given day by day. */
+static uint8_t *put_groups(uint8_t *at, const struct day *const *days, unsigned layout, unsigned side) {
+    at = put16(at, days[0]->groups[side]);
+    for (unsigned g = 0; g < days[0]->groups[side]; g++) {
+        at = put16(at, days[0]->parent[side][g]);
+        for (unsigned k = 0; k < limits_in(layout); k++) at = put16(at, days[k]->limit[side][g]);
     }
+    return at;
+}
+
+static void write_days(const struct day *const *days, unsigned layout, struct file *f) {
+    const struct day *d = days[0];
+    uint8_t *at = f->bytes;
+    for (unsigned side = 0; side < 2; side++) at = put_groups(at, days, layout, side);
     at = put16(at, d->rows);
     for (unsigned c = 0; c < d->rows; c++) {
         at = put16(put16(at, d->group[CARD][c]), d->group[SHOP][c]);
@@ -27,22 +47,56 @@ void write_day(const struct day *d, struct file *f) {
     f->length = (size_t)(at - f->bytes);
 }
 
-/* One group section from *at on. */
-static unsigned read_groups(const uint8_t *file, size_t length, unsigned sort, size_t *at, unsigned *count, uint16_t *parent,
-                            uint16_t *limit) {
+void write_week(const struct week *w, unsigned layout, struct file *f) {
+    const struct day *days[WEEKDAYS];
+    for (unsigned k = 0; k < WEEKDAYS; k++) days[k] = &w->on[k];
+    write_days(days, layout, f);
+}
+
+void write_day(const struct day *d, unsigned layout, struct file *f) {
+    const struct day *days[WEEKDAYS] = {d, d, d, d, d, d, d};
+    write_days(days, layout, f);
+}
+
+/* The other weekdays take turns with two days of other limits. */
+void write_among(const struct day *d, struct form form, struct file *f) {
+    static struct day others[2];
+    const struct day *days[WEEKDAYS] = {d};
+    for (unsigned k = 0; k < 2 && form.layout == WEEK; k++) {
+        others[k] = with_other_limits(d);
+        if (form.stored == NEW) others[k] = lowered(&others[k]);
+    }
+    for (unsigned k = 0; k < WEEKDAYS && form.layout == WEEK; k++) days[k] = k == form.weekday ? d : &others[k % 2];
+    write_days(days, form.layout, f);
+}
+
+/* Whether one of the limits of a group record is above that of its parent's record. */
+static inline int has_above(const uint8_t *own, const uint8_t *parent, unsigned limits) {
+    for (unsigned k = 1; k <= limits; k++)
+        if (get16(own + 2 * k) > get16(parent + 2 * k)) return 1;
+    return 0;
+}
+
+/* The group section of a side from *at on, with records of so many limits, of which number `column` is taken. */
+static inline unsigned read_groups(const uint8_t *file, size_t length, unsigned limits, unsigned column, unsigned stored, size_t *at,
+                                   struct day *d, unsigned side) {
+    uint16_t *parent = d->parent[side], *limit = d->limit[side];
+    unsigned width = 2 + 2 * limits;
     if (length - *at < 2) return 1;
     unsigned groups = get16(file + *at);
     if (groups > MOST_GROUPS) return 2;
-    *at += 2;
-    for (unsigned g = 0; g < groups; g++, *at += 4) {
-        if (length - *at < 4) return 1;
-        parent[g] = (uint16_t)get16(file + *at);
-        limit[g] = (uint16_t)get16(file + *at + 2);
-        if (parent[g] == TOP) continue;
-        if (parent[g] >= g) return 3;
-        if (sort == NEW && limit[g] > limit[parent[g]]) return 11;
+    const uint8_t *start = file + (*at += 2);
+    for (unsigned g = 0; g < groups; g++, *at += width) {
+        if (length - *at < width) return 1;
+        const uint8_t *own = file + *at;
+        unsigned above = get16(own);
+        parent[g] = (uint16_t)above;
+        limit[g] = (uint16_t)get16(own + 2 + 2 * column);
+        if (above == TOP) continue;
+        if (above >= g) return 3;
+        if (stored == NEW && has_above(own, start + width * above, limits)) return 11;
     }
-    *count = groups;
+    d->groups[side] = groups;
     return 0;
 }
 
@@ -63,11 +117,16 @@ static unsigned read_rows(const uint8_t *file, size_t length, size_t *at, struct
     return 0;
 }
 
-unsigned read_day(const uint8_t *file, size_t length, unsigned sort, struct day *d) {
+/* The numbers of limits are given as they are known, so that each layout has a reader of its own. */
+unsigned read_day(const uint8_t *file, size_t length, struct form form, struct day *d) {
     size_t at = 0;
     unsigned fault = 0;
-    for (int side = 0; side < 2 && !fault; side++)
-        fault = read_groups(file, length, sort, &at, &d->groups[side], d->parent[side], d->limit[side]);
+    for (unsigned side = 0; side < 2 && !fault; side++) {
+        if (form.layout == WEEK)
+            fault = read_groups(file, length, WEEKDAYS, form.weekday, form.stored, &at, d, side);
+        else
+            fault = read_groups(file, length, 1, 0, form.stored, &at, d, side);
+    }
     if (!fault) fault = read_rows(file, length, &at, d);
     return fault ? fault : at < length ? 7 : 0;
 }
@@ -93,6 +152,18 @@ struct day lowered(const struct day *d) {
     return low;
 }
 
+int is_new_week(const struct week *w) {
+    for (unsigned k = 0; k < WEEKDAYS; k++)
+        if (!is_new(&w->on[k])) return 0;
+    return 1;
+}
+
+struct week lowered_week(const struct week *w) {
+    struct week low;
+    for (unsigned k = 0; k < WEEKDAYS; k++) low.on[k] = lowered(&w->on[k]);
+    return low;
+}
+
 /* ---- Days, made and drawn ---- */
 
 struct day flat_day(unsigned cards, unsigned card_limit, unsigned shops, unsigned shop_limit) {
@@ -109,6 +180,12 @@ void add_row(struct day *d, unsigned card, unsigned shop, unsigned kind) {
     d->group[CARD][d->rows] = (uint16_t)card;
     d->group[SHOP][d->rows] = (uint16_t)shop;
     d->kind[d->rows++] = (uint8_t)kind;
+}
+
+struct day day_a(void) {
+    struct day a = flat_day(2, 1, 2, 1);
+    add_row(&a, 0, 0, 1), add_row(&a, 0, 1, 0), add_row(&a, 1, 0, 0);
+    return a;
 }
 
 struct day chain_day(unsigned limit) {
@@ -147,10 +224,15 @@ void hang_forest(struct day *d, unsigned side, unsigned chained, unsigned tops) 
     }
 }
 
+void draw_limits(struct day *d, unsigned side, unsigned most) {
+    for (unsigned g = 0; g < d->groups[side]; g++)
+        d->limit[side][g] = (uint16_t)(below(16) == 0 ? TOP : below(12) == 0 ? 0 : 1 + below(most));
+}
+
 void draw_side(struct day *d, unsigned side, unsigned count, unsigned most) {
     d->groups[side] = count;
     hang_forest(d, side, below(3) ? 0 : below(9), 3);
-    for (unsigned g = 0; g < count; g++) d->limit[side][g] = (uint16_t)(below(16) == 0 ? TOP : below(12) == 0 ? 0 : 1 + below(most));
+    draw_limits(d, side, most);
 }
 
 void draw_rows(struct day *d, unsigned count, unsigned kinds) {
@@ -165,6 +247,18 @@ struct day random_day(unsigned groups, unsigned rows) {
     for (unsigned side = 0; side < 2; side++) draw_side(&d, side, 1 + below(groups), 1 + below(1 + rows / 4));
     draw_rows(&d, below(rows + 1), 2);
     return d;
+}
+
+struct week every_day(const struct day *d) {
+    struct week w;
+    for (unsigned k = 0; k < WEEKDAYS; k++) w.on[k] = *d;
+    return w;
+}
+
+struct week drawn_week(const struct day *d, unsigned weekday) {
+    struct week w;
+    for (unsigned k = 0; k < WEEKDAYS; k++) w.on[k] = k == weekday ? *d : with_other_limits(d);
+    return w;
 }
 
 /* ---- Plain answers ---- */

@@ -20,10 +20,12 @@ extern "C" {
 
 /* The bounds of document 01. All other C files use these names. */
 enum {
-    MOST_GROUPS = 256, /* in one section */
+    MOST_GROUPS = 256,    /* in one section */
     MOST_ROWS = 512,
-    MOST_FILE = 4614, /* bytes of the longest file, in which all three sections are full */
-    TOP = 65535       /* the parent of a group at the top; also the largest limit */
+    WEEKDAYS = 7,         /* the days of a week, numbered from 0 */
+    MOST_FILE = 10758,    /* bytes of the longest file, in which all three sections are full */
+    MOST_OLD_FILE = 4614, /* the same in the old layout */
+    TOP = 65535           /* the parent of a group at the top; also the largest limit */
 };
 
 /* What follows from them: how many marks the sheet of the largest day has. */
@@ -35,9 +37,10 @@ enum { CARD, SHOP };
 /* ---- The day and its file ---- */
 
 /*
- * A day as tables. groups[CARD] is the number of card groups and groups[SHOP] that of shop groups; parent[SHOP][3] is the parent of
- * shop group 3; group[CARD][7] is the card group that row 7 names; kind[7] is 1 where row 7 is earned, and 0 where it is ordinary.
- * The solver's tests also use kinds up to 3, and the group TOP for a row that names no group of that side and counts in none.
+ * A day as tables, with the limits of one weekday. groups[CARD] is the number of card groups and groups[SHOP] that of shop groups;
+ * parent[SHOP][3] is the parent of shop group 3; group[CARD][7] is the card group that row 7 names; kind[7] is 1 where row 7 is earned,
+ * and 0 where it is ordinary. The solver's tests also use kinds up to 3, and the group TOP for a row that names no group of that side and
+ * counts in none.
  */
 struct day {
     unsigned groups[2];
@@ -46,6 +49,15 @@ struct day {
     uint16_t group[2][MOST_ROWS];
     uint8_t kind[MOST_ROWS];
 };
+
+/* A week: the day as it is on each weekday. Only the limits differ. */
+struct week {
+    struct day on[WEEKDAYS];
+};
+
+/* Numbers that no weekday has: the first ones, ones whose low bits are weekday 0's, and the largest. */
+enum { NO_WEEKDAYS = 5 };
+extern const unsigned no_weekdays[NO_WEEKDAYS];
 
 /* The bytes of a claim file. One byte more than the longest file, so that a damaged one can be too long. */
 struct file {
@@ -59,23 +71,44 @@ static inline unsigned get16(const uint8_t *at) { return at[0] | (unsigned)at[1]
 /* Stores such a number at a place, and answers the place after it. */
 uint8_t *put16(uint8_t *at, unsigned x);
 
-/* Writes the claim file of a day. */
-void write_day(const struct day *d, struct file *f);
+/* The two layouts of a file. A group record of the old one has one limit, for all weekdays; one of the week layout has seven. */
+enum { OLD, WEEK };
 
 /*
- * The two sorts of file. In a new one no group's limit is above its parent's. In a stored one any limit may stand, and each that is above
- * its parent's counts as that one.
+ * A file is a new one or a stored one. In a new one no group's limit is above its parent's. In a stored one any limit may stand, and each
+ * that is above its parent's counts as that one. Both hold for each weekday by itself.
  */
 enum { NEW, STORED };
 
-/* Reads a claim file of a sort: 0 and the day, with the limits as they stand there, or the number of the first fault. */
-unsigned read_day(const uint8_t *file, size_t length, unsigned sort, struct day *d);
+/* How a call takes a file: its layout, OLD or WEEK; whether it is NEW or STORED; and the weekday whose limits count. */
+struct form {
+    unsigned layout, stored, weekday;
+};
+
+/* Writes the claim file of a week. In the old layout the limits are those of weekday 0. */
+void write_week(const struct week *w, unsigned layout, struct file *f);
+
+/* Writes the claim file of a week that has the same limits on all weekdays. */
+void write_day(const struct day *d, unsigned layout, struct file *f);
+
+/*
+ * Writes a claim file, as a form says, that holds the day on the form's weekday. On the other weekdays the groups have limits that are
+ * drawn at random, except in the old layout.
+ */
+void write_among(const struct day *d, struct form form, struct file *f);
+
+/* Reads a claim file: 0 and the day with the limits of the form's weekday, as they stand there, or the number of the first fault. */
+unsigned read_day(const uint8_t *file, size_t length, struct form form, struct day *d);
 
 /* Whether no group's limit is above its parent's, so that a new file may hold the day. */
 int is_new(const struct day *d);
 
 /* The day with its limits lowered: from the first group to the last, each that is above its parent's becomes that one. */
 struct day lowered(const struct day *d);
+
+/* The same for each weekday of a week. */
+int is_new_week(const struct week *w);
+struct week lowered_week(const struct week *w);
 
 /* ---- Days, made and drawn ---- */
 
@@ -84,6 +117,9 @@ struct day flat_day(unsigned cards, unsigned card_limit, unsigned shops, unsigne
 
 /* One row more, after the others. */
 void add_row(struct day *d, unsigned card, unsigned shop, unsigned kind);
+
+/* Day A of document 01. */
+struct day day_a(void);
 
 /* A day of the most groups a side in one chain, each with this limit, and of the most rows, all at its end; every other row is earned. */
 struct day chain_day(unsigned limit);
@@ -110,11 +146,18 @@ void hang_forest(struct day *d, unsigned side, unsigned chained, unsigned tops);
  */
 void draw_side(struct day *d, unsigned side, unsigned count, unsigned most);
 
+/* The limits of a side alone, drawn as draw_side does it. */
+void draw_limits(struct day *d, unsigned side, unsigned most);
+
 /* `count` rows more, of so many kinds; each names any two groups. */
 void draw_rows(struct day *d, unsigned count, unsigned kinds);
 
 /* A day of at most so many groups a side, and at least one, and at most so many rows of the two kinds. Only some are new as drawn. */
 struct day random_day(unsigned groups, unsigned rows);
+
+/* A week with the same limits on all weekdays, and one whose limits are the day's on one weekday and drawn anew on the others. */
+struct week every_day(const struct day *d);
+struct week drawn_week(const struct day *d, unsigned weekday);
 
 /* ---- Plain answers. A selection, or a choice, has one byte a row: 1 where the row is selected, else 0. ---- */
 

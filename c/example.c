@@ -1,9 +1,10 @@
 /*
- * A small till: it settles one claim file, a new one, and prints which rows are kept and, where an earned row is turned down, which limits
- * to raise.
+ * A small till: it settles one claim file, a new one in the week layout, by the limits of a day, and prints which rows are kept and, where
+ * an earned row is turned down, which limits to raise.
  *
  *     gcc -O2 -Ic c/example.c target/staticlib/libtill.a -o example
- *     ./example samples/day_a.claims          or          ./example < samples/day_a.claims
+ *     ./example < samples/week.claims         settles it for day 0
+ *     ./example 5 < samples/week.claims       settles it for day 5
  *
  * How to read it. What stands between these marks is a comment. `#include` brings in the names that another file declares: claims.h has
  * the library's. The program begins at `main` and goes from line to line; `if` and `for` say which lines, and how often. `x[n]` is a list
@@ -13,6 +14,7 @@
  * The exit status is 0 where the file is settled, 1 where it is refused and 2 where there is none to read.
  */
 #include <stdio.h>
+#include <stdlib.h>
 #include "claims.h"
 
 /*
@@ -37,7 +39,8 @@ static const char *const meaning[] = {
     [CLAIMS_SHORT] = "a lent buffer or selection is shorter than needed",
     [CLAIMS_VALUE] = "a selection byte is over 1, a side is over 1, or a row is not below N",
     [CLAIMS_SELECTED] = "the row is already in the selection",
-    [CLAIMS_LIMIT_ABOVE] = "a group's limit is above its parent's",
+    [CLAIMS_LIMIT_ABOVE] = "a group's limit is above its parent's on any of the seven days",
+    [CLAIMS_DAY] = "the day is over 6",
 };
 
 /* What is said of a row that is turned down, by its code. */
@@ -55,17 +58,18 @@ int main(int count, char **words) {
         return 2;
     }
 
-    /* The first word after the program's own name is the file's; where there is none, the file comes by standard input. */
-    FILE *from = count > 1 ? fopen(words[1], "rb") : stdin;
-    size_t length = from == NULL ? 0 : fread(file, 1, sizeof file, from);
-    if (from == NULL || ferror(from)) {
+    /* The first word after the program's own name is the day; where there is none, it is day 0. The file comes by standard input. */
+    uint32_t day = count > 1 ? (uint32_t)strtoul(words[1], NULL, 10) : 0;
+    size_t length = fread(file, 1, sizeof file, stdin);
+    if (ferror(stdin)) {
         perror("the claim file");
         return 2;
     }
 
-    /* The call: the file, then each lent buffer, each with its length. */
+    /* The call: the file with its length, the day, and then each lent buffer with its length. */
     struct claims_settle_answer answer = claims_settle(
         file, length,
+        day,
         choice, CLAIMS_LONGEST_CHOICE,
         sheet, CLAIMS_LONGEST_SHEET,
         scratch, CLAIMS_LONGEST_SCRATCH);
@@ -75,9 +79,13 @@ int main(int count, char **words) {
         return 1;
     }
 
-    /* The codes of the rows. The file and the memory are good, so that this call is not turned away; its answer has the number of rows. */
+    /*
+     * The codes of the rows on the same day. The file, the day and the memory are good, so that this call is not turned away; its answer
+     * has the number of rows.
+     */
     struct claims_write_codes_answer written = claims_write_codes(
         file, length,
+        day,
         codes, CLAIMS_LONGEST_CODES,
         scratch, CLAIMS_LONGEST_SCRATCH);
 

@@ -1,7 +1,8 @@
 /*
  * Tests of the codes, for each sort of file: refusals and lengths; worked days and a sample; small days against the definition, worked out
  * from every largest choice of earned rows; larger days against it from two of these choices; and for all of them how many of the rows with
- * a code are kept. A stored day is worked out with its limits as they stand in the file, and compared with the same day lowered.
+ * a code are kept. On the weekdays that are not named a file has other limits, and they must not matter. A stored day is worked out with
+ * its limits as they stand in the file, and compared with the same day lowered.
  */
 #include <stdio.h>
 #include <string.h>
@@ -10,8 +11,9 @@
 
 enum { SMALL_EARNED = 9, SMALL_ROWS = 12, CODES = 4 };
 
-/* The sort whose turn it is. */
+/* The sort whose turn it is, and the weekday that the calls name. */
 static const struct sort *by;
+static unsigned weekday;
 
 static struct file file;
 
@@ -142,7 +144,7 @@ static size_t cells_of(const struct day *d) { return 8 * (d->groups[CARD] + d->g
 /* Writes the codes of the file, with buffers of so many cells. The choice of c/lent.h is the code buffer; its sheet is not lent. */
 static struct claims_write_codes_answer write_in(size_t codes, size_t scratch) {
     fill_lent();
-    return by->write_codes(file.bytes, file.length, lent.choice, codes, lent.scratch, scratch);
+    return by->write_codes(file.bytes, file.length, weekday, lent.choice, codes, lent.scratch, scratch);
 }
 
 /* The number is told, and 0 beside it, and no buffer is changed. */
@@ -151,10 +153,13 @@ static void turned_away(const char *what, size_t codes, size_t scratch, unsigned
     expect(r.refusal == number && r.length == 0 && untouched(0, 0, 0), "%s: %u, but must be %u", what, (unsigned)r.refusal, number);
 }
 
+/* Writes a file that holds a day on the weekday. */
+static void write_file(const struct day *d) { write_among(d, form_of(by, weekday), &file); }
+
 /* The codes of a day, with buffers longer than needed by `more` cells, and everything else that the call leaves. */
 static void write_codes(const struct day *d, size_t more, uint8_t *codes, const char *what) {
     unsigned zero = 1;
-    write_day(d, &file);
+    write_file(d);
     struct claims_write_codes_answer r = write_in(d->rows + more, cells_of(d) + more);
     for (size_t i = 0; i < cells_of(d); i++) zero &= lent.scratch[i] == 0;
     expect(r.refusal == 0 && r.length == d->rows, "%s: the answer", what);
@@ -166,18 +171,18 @@ static void write_codes(const struct day *d, size_t more, uint8_t *codes, const 
 /* The choice of a day as it is settled. */
 static void settle(const struct day *d, uint8_t *choice) {
     static uint32_t sheet[CLAIMS_LONGEST_SHEET], scratch[CLAIMS_LONGEST_SCRATCH];
-    write_day(d, &file);
+    write_file(d);
     struct claims_settle_answer r =
-        by->settle(file.bytes, file.length, choice, MOST_ROWS, sheet, CLAIMS_LONGEST_SHEET, scratch, CLAIMS_LONGEST_SCRATCH);
+        by->settle(file.bytes, file.length, weekday, choice, MOST_ROWS, sheet, CLAIMS_LONGEST_SHEET, scratch, CLAIMS_LONGEST_SCRATCH);
     expect(r.refusal == 0, "a day is not settled");
 }
 
-/* A day in a stored file has the codes of the day lowered in a new one. */
+/* A day in a stored file, or in one of the old layout, has the codes of the day lowered in a new one of the week layout. */
 static void lowered_alike(const struct day *d, const uint8_t *codes, const char *what) {
     static uint8_t low_codes[MOST_ROWS];
     const struct sort *was = by;
     struct day low = lowered(d);
-    by = &sorts[NEW];
+    by = &sorts[NEW_WEEK];
     write_codes(&low, 0, low_codes, what);
     by = was;
     expect(memcmp(codes, low_codes, d->rows) == 0, "%s: other codes for the day lowered", what);
@@ -194,12 +199,6 @@ static void worked(const char *name, const struct day *d, const char *must) {
     expect(defined_by_graph(d, codes), "%s: the definition has other codes", name);
     by_ranks(d, choice, codes, name);
     lowered_alike(d, codes, name);
-}
-
-static struct day day_a(void) {
-    struct day a = flat_day(2, 1, 2, 1);
-    add_row(&a, 0, 0, 1), add_row(&a, 0, 1, 0), add_row(&a, 1, 0, 0);
-    return a;
 }
 
 /* Two card groups of limit 1, of which the second is in the first, a shop group of this limit, and two earned rows, which fit one card. */
@@ -263,6 +262,7 @@ static void chain_has(unsigned card_limit, unsigned shop_limit, unsigned code) {
 }
 
 static void chains(void) {
+    weekday = below(WEEKDAYS);
     enum { ALL = MOST_ROWS / 2 }; /* the earned rows */
     chain_has(TOP, TOP, CLAIMS_CODE_REST);
     chain_has(ALL, ALL, CLAIMS_CODE_REST);
@@ -274,6 +274,27 @@ static void chains(void) {
     chain_has(0, TOP, CLAIMS_CODE_CARD);
     chain_has(TOP, 0, CLAIMS_CODE_SHOP);
     chain_has(0, 0, CLAIMS_CODE_REST);
+}
+
+/*
+ * A week whose codes tell the weekday. Two earned rows name a card group under a group of limit 1 on weekdays 0, 1 and 2 and of limit 2 on
+ * the others; their shelf has limit 1 on every other weekday, and else 9. So the card holds them, or the shelf, or both, or neither.
+ */
+static void each_weekday(void) {
+    struct day d = one_card(9);
+    struct week w = every_day(&d);
+    for (unsigned k = 0; k < WEEKDAYS; k++) {
+        w.on[k].limit[CARD][0] = k < 3 ? 1 : 2;
+        if (k % 2) w.on[k].limit[SHOP][0] = 1;
+    }
+    write_week(&w, WEEK, &file);
+    for (weekday = 0; weekday < WEEKDAYS; weekday++) {
+        unsigned card = weekday < 3, shop = weekday % 2;
+        unsigned code = card == shop ? CLAIMS_CODE_REST : card ? CLAIMS_CODE_CARD : CLAIMS_CODE_SHOP;
+        struct claims_write_codes_answer r = write_in(2, cells_of(&d));
+        expect(r.refusal == 0 && lent.choice[0] == code && lent.choice[1] == code, "weekday %u: not code %u", weekday, code);
+    }
+    weekday = 0;
 }
 
 /* ---- The sample ---- */
@@ -292,7 +313,7 @@ static void sample(void) {
     unsigned row, code, count = 0, down[CODES] = {0};
     if (claims == NULL || lines == NULL) return;
     file.length = fread(file.bytes, 1, sizeof file.bytes, claims);
-    expect(read_day(file.bytes, file.length, NEW, &d) == 0, "the sample is a new file");
+    expect(read_day(file.bytes, file.length, form_of(&sorts[NEW_WEEK], 0), &d) == 0, "the sample is a new file");
     write_codes(&d, 0, codes, "the sample");
     settle(&d, choice);
     for (; fscanf(lines, "%u %u", &row, &code) == 2 && count < d.rows; count++) {
@@ -324,20 +345,39 @@ static void lengths(const struct day *d) {
     turned_away("one byte too many", CHOICE_CELLS, SCRATCH_CELLS, CLAIMS_TRAILING);
 }
 
+/* A day that the week does not have, judged after the file and the lengths. */
+static void no_such_day(const struct day *d) {
+    for (unsigned k = 0; k < NO_WEEKDAYS; k++) {
+        weekday = no_weekdays[k];
+        write_file(d);
+        turned_away("day over 6", d->rows, cells_of(d), CLAIMS_DAY);
+        turned_away("day over 6, longer buffers", CHOICE_CELLS, SCRATCH_CELLS, CLAIMS_DAY);
+        if (d->rows > 0) turned_away("day over 6, codes one short", d->rows - 1, cells_of(d), CLAIMS_SHORT);
+        if (cells_of(d) > 0) turned_away("day over 6, scratch one short", d->rows, cells_of(d) - 1, CLAIMS_SHORT);
+        file.length--;
+        turned_away("day over 6, the file's own fault", CHOICE_CELLS, SCRATCH_CELLS, CLAIMS_CUT_OFF);
+    }
+}
+
 static void refusals(void) {
     struct day a = day_a(), empty = {0}, none = flat_day(3, 2, 2, 2), largest = flat_day(MOST_GROUPS, 1, MOST_GROUPS, 1);
     draw_rows(&largest, MOST_ROWS, 2);
+    no_such_day(&a);
+    no_such_day(&empty);
+    no_such_day(&largest);
+    weekday = WEEKDAYS - 1;
     lengths(&a);
     lengths(&empty);
     lengths(&none);
     lengths(&largest);
-    for (int n = 0; n < 50; n++) {
+    for (int n = 0; n < 25; n++) {
         struct day d = day_for(by, random_day(20, 40));
+        weekday = below(WEEKDAYS);
         lengths(&d);
     }
     struct day high = flat_day(2, 1, 1, 1);
     high.parent[CARD][1] = 0, high.limit[CARD][1] = 2;
-    write_day(&high, &file);
+    write_day(&high, by->layout, &file);
     if (by->stored == NEW) turned_away("a limit above its parent's", CHOICE_CELLS, SCRATCH_CELLS, CLAIMS_LIMIT_ABOVE);
 }
 
@@ -394,8 +434,9 @@ static void all_codes_seen(const char *what) {
 
 static void small_days(void) {
     unsigned several = 0;
-    for (unsigned n = 0; n < 3000; n++) {
+    for (unsigned n = 0; n < 1500; n++) {
         struct day d = small_day(n);
+        weekday = below(WEEKDAYS);
         uint8_t codes[MOST_ROWS], choice[MOST_ROWS];
         write_codes(&d, below(2) ? PAST : 0, codes, "a small day");
         several += from_every_choice(&d, codes) > 1;
@@ -404,7 +445,7 @@ static void small_days(void) {
         lowered_alike(&d, codes, "a small day");
         count_down(&d, choice, codes);
     }
-    expect(several > 1000, "only %u small days have several largest choices", several);
+    expect(several > 500, "only %u small days have several largest choices", several);
     all_codes_seen("small days");
 }
 
@@ -467,7 +508,8 @@ static void raised_alone(const struct day *d, const uint8_t *codes) {
 
 /* A stored day is taken lowered, so that the limits that are raised are those that count. */
 static void limits_raised(void) {
-    for (unsigned n = 0; n < 1500; n++) {
+    for (unsigned n = 0; n < 750; n++) {
+        weekday = below(WEEKDAYS);
         struct day drawn = n % 3 ? small_day(n) : day_for(by, random_day(30, 90)), d = lowered(&drawn);
         uint8_t codes[MOST_ROWS], choice[MOST_ROWS];
         write_codes(&d, 0, codes, "a day whose limits are raised");
@@ -499,6 +541,7 @@ static struct day turned_round(const struct day *d) {
 static void one_day(const struct day *d, const char *what) {
     uint8_t codes[MOST_ROWS], round_codes[MOST_ROWS], choice[MOST_ROWS];
     struct day round = turned_round(d);
+    weekday = below(WEEKDAYS);
     write_codes(d, 0, codes, what);
     settle(d, choice);
     graph_by_places(d, choice);
@@ -533,15 +576,15 @@ static struct day large_day(unsigned n) {
 }
 
 static void larger_days(void) {
-    for (int n = 0; n < 400; n++) {
+    for (int n = 0; n < 200; n++) {
         struct day d = day_for(by, random_day(40, 120));
         one_day(&d, "a day of middle size");
     }
-    for (int n = 0; n < 60; n++) {
+    for (int n = 0; n < 30; n++) {
         struct day d = day_for(by, random_day(MOST_GROUPS, MOST_ROWS));
         one_day(&d, "a large day");
     }
-    for (unsigned n = 0; n < 128; n++) {
+    for (unsigned n = 0; n < 64; n++) {
         struct day d = large_day(n);
         one_day(&d, "a day of the largest size");
     }
@@ -552,9 +595,10 @@ int main(void) {
     for (by = sorts; by < sorts + SORTS; by++) {
         printf("%s\n", by->name);
         start_numbers(20270307);
-        worked_days();
+        for (weekday = 0; weekday < WEEKDAYS; weekday++) worked_days();
         chains();
         sample();
+        if (by->layout == WEEK) each_weekday();
         part_done("worked days and the sample");
         refusals();
         part_done("refusals and lengths");

@@ -5,6 +5,7 @@
 static const struct sort *by;
 
 static struct file file;
+static unsigned weekday; /* that the calls name */
 static uint8_t choice[CLAIMS_LONGEST_CHOICE];
 static uint32_t sheet[CLAIMS_LONGEST_SHEET], scratch[CLAIMS_LONGEST_SCRATCH];
 static uint8_t slip[CLAIMS_LONGEST_SLIP], canonical[CLAIMS_LONGEST_CANONICAL], codes[CLAIMS_LONGEST_CODES];
@@ -14,7 +15,7 @@ static const uint8_t no_row[CLAIMS_LONGEST_SELECTION];
 static unsigned settled_with(const struct day *d, size_t choice_less, size_t sheet_less, size_t scratch_less) {
     unsigned groups = d->groups[CARD] + d->groups[SHOP];
     struct claims_settle_answer r = by->settle(
-        file.bytes, file.length,
+        file.bytes, file.length, weekday,
         choice, CLAIMS_CHOICE_LENGTH(d->rows) - choice_less,
         sheet, CLAIMS_SHEET_LENGTH(groups, d->rows) - sheet_less,
         scratch, CLAIMS_SCRATCH_LENGTH(groups, d->rows) - scratch_less);
@@ -25,7 +26,7 @@ static unsigned settled_with(const struct day *d, size_t choice_less, size_t she
 static unsigned coded_with(const struct day *d, size_t codes_less, size_t scratch_less) {
     unsigned groups = d->groups[CARD] + d->groups[SHOP];
     struct claims_write_codes_answer r = by->write_codes(
-        file.bytes, file.length,
+        file.bytes, file.length, weekday,
         codes, CLAIMS_CODES_LENGTH(d->rows) - codes_less,
         scratch, CLAIMS_SCRATCH_LENGTH(groups, d->rows) - scratch_less);
     return r.refusal;
@@ -33,29 +34,36 @@ static unsigned coded_with(const struct day *d, size_t codes_less, size_t scratc
 
 /* The other calls, with a selection of that length in which no row is selected. */
 static unsigned ranked_with(size_t length) {
-    return by->fits_and_rank(file.bytes, file.length, no_row, length, CLAIMS_CARD).refusal;
+    return by->fits_and_rank(file.bytes, file.length, no_row, length, CLAIMS_CARD, weekday).refusal;
 }
 
-static unsigned spare_with(size_t length) { return by->spare_places(file.bytes, file.length, no_row, length, 0).refusal; }
+static unsigned spare_with(size_t length) { return by->spare_places(file.bytes, file.length, no_row, length, 0, weekday).refusal; }
 
 static unsigned slip_with(size_t length, size_t slip_length) {
-    return by->write_slip(file.bytes, file.length, no_row, length, slip, slip_length).refusal;
+    return by->write_slip(file.bytes, file.length, no_row, length, weekday, slip, slip_length).refusal;
 }
 
 static unsigned canonical_with(size_t length) {
     return by->write_canonical(file.bytes, file.length, canonical, length).refusal;
 }
 
-/* The lengths suffice, and no call takes a shorter one. */
+static size_t file_length(unsigned groups, unsigned claims) {
+    return by->layout == WEEK ? CLAIMS_FILE_LENGTH(groups, claims) : CLAIMS_FILE_LENGTH_OLD(groups, claims);
+}
+
+/* The lengths suffice, and no call takes a shorter one. They are the same in both layouts, that of the canonical form too. */
 static void lengths(const struct day *d) {
-    size_t selection = CLAIMS_SELECTION_LENGTH(d->rows);
-    write_day(d, &file);
+    unsigned groups = d->groups[CARD] + d->groups[SHOP];
+    size_t selection = CLAIMS_SELECTION_LENGTH(d->rows), form = CLAIMS_CANONICAL_LENGTH(groups, d->rows);
+    weekday = below(CLAIMS_DAYS);
+    write_among(d, form_of(by, weekday), &file);
+    expect(file.length == file_length(groups, d->rows), "the length of the file");
     expect(settled_with(d, 0, 0, 0) == 0, "settle with the needed lengths");
     expect(ranked_with(selection) == 0, "fits and rank with the needed length");
     expect(slip_with(selection, CLAIMS_SLIP_LENGTH(0)) == 0, "the slip with the needed lengths");
     expect(slip_with(selection, CLAIMS_SLIP_LENGTH(0) - 1) == CLAIMS_SHORT, "a slip one short");
-    expect(canonical_with(CLAIMS_CANONICAL_LENGTH(file.length)) == 0, "the canonical form with the needed length");
-    expect(canonical_with(CLAIMS_CANONICAL_LENGTH(file.length) - 1) == CLAIMS_SHORT, "a canonical form one short");
+    expect(canonical_with(form) == 0, "the canonical form with the needed length");
+    expect(canonical_with(form - 1) == CLAIMS_SHORT, "a canonical form one short");
     expect(settled_with(d, 0, 1, 0) == CLAIMS_SHORT, "a sheet one short");
     expect(settled_with(d, 0, 0, 1) == CLAIMS_SHORT, "a scratch one short");
     expect(coded_with(d, 0, 0) == 0, "the codes with the needed lengths");
@@ -80,8 +88,8 @@ static void days(void) {
     start_numbers(20270302);
     struct day d = largest_day();
     lengths(&d);
-    expect(file.length == CLAIMS_LONGEST_FILE, "the longest file");
-    for (int n = 0; n < 100; n++) {
+    expect(file.length == (by->layout == WEEK ? CLAIMS_LONGEST_FILE : CLAIMS_LONGEST_FILE_OLD), "the longest file");
+    for (int n = 0; n < 50; n++) {
         d = day_for(by, random_day(20, 40));
         lengths(&d);
     }
@@ -91,12 +99,17 @@ int main(void) {
     expect(claims_version() == CLAIMS_VERSION, "the library's version is the header's");
 
     expect(CLAIMS_MOST_GROUPS == MOST_GROUPS && CLAIMS_MOST_CLAIMS == MOST_ROWS, "the most groups and claims");
+    expect(CLAIMS_DAYS == WEEKDAYS, "the days of a week");
+    expect(CLAIMS_LONGEST_FILE == 10758, "the longest file");
+    expect(CLAIMS_LONGEST_FILE == CLAIMS_FILE_LENGTH(2 * CLAIMS_MOST_GROUPS, CLAIMS_MOST_CLAIMS), "the longest file by its records");
+    expect(CLAIMS_LONGEST_FILE_OLD == 4614, "the longest file of the old layout");
+    expect(CLAIMS_LONGEST_FILE_OLD == CLAIMS_FILE_LENGTH_OLD(2 * CLAIMS_MOST_GROUPS, CLAIMS_MOST_CLAIMS), "the same by its records");
     expect(CLAIMS_LONGEST_SELECTION == CLAIMS_SELECTION_LENGTH(CLAIMS_MOST_CLAIMS), "the longest selection");
     expect(CLAIMS_LONGEST_CHOICE == CLAIMS_CHOICE_LENGTH(CLAIMS_MOST_CLAIMS), "the longest choice");
     expect(CLAIMS_LONGEST_SHEET == CLAIMS_SHEET_LENGTH(2 * CLAIMS_MOST_GROUPS, CLAIMS_MOST_CLAIMS), "the longest sheet");
     expect(CLAIMS_LONGEST_SCRATCH == CLAIMS_SCRATCH_LENGTH(2 * CLAIMS_MOST_GROUPS, CLAIMS_MOST_CLAIMS), "the longest scratch");
     expect(CLAIMS_LONGEST_SLIP == CLAIMS_SLIP_LENGTH(CLAIMS_MOST_CLAIMS), "the longest slip");
-    expect(CLAIMS_LONGEST_CANONICAL == CLAIMS_CANONICAL_LENGTH(CLAIMS_LONGEST_FILE), "the longest canonical form");
+    expect(CLAIMS_LONGEST_CANONICAL == CLAIMS_CANONICAL_LENGTH(2 * CLAIMS_MOST_GROUPS, CLAIMS_MOST_CLAIMS), "the longest canonical form");
     expect(CLAIMS_LONGEST_CODES == CLAIMS_CODES_LENGTH(CLAIMS_MOST_CLAIMS), "the longest codes");
 
     part_done("the header alone");

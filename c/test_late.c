@@ -1,7 +1,7 @@
 /*
  * Tests of one claim more at the end of a file, for each sort of file: the earned count stays or rises by one; the kept count falls by one,
- * stays, or rises by one; and it falls only where the earned count rises. Small days are settled and searched through all selections, larger
- * ones are settled. A stored day is searched with its limits as they stand in the file.
+ * stays, or rises by one; and it falls only where the earned count rises. Small days are settled and searched through all selections,
+ * larger ones are settled. A stored day is searched with its limits as they stand in the file.
  */
 #include <stdio.h>
 #include <string.h>
@@ -10,8 +10,9 @@
 
 enum { SMALL_ROWS = 12, CLAIM_BYTES = 5 };
 
-/* The sort whose turn it is. */
+/* The sort whose turn it is, and the weekday that the calls name. */
 static const struct sort *by;
+static unsigned weekday;
 
 static struct file file;
 
@@ -34,7 +35,7 @@ static struct counts counts_of(const struct day *d, const uint8_t *choice) {
 static struct counts settled(const struct day *d, const char *what) {
     fill_lent();
     struct claims_settle_answer r =
-        by->settle(file.bytes, file.length, lent.choice, CHOICE_CELLS, lent.sheet, SHEET_CELLS, lent.scratch, SCRATCH_CELLS);
+        by->settle(file.bytes, file.length, weekday, lent.choice, CHOICE_CELLS, lent.sheet, SHEET_CELLS, lent.scratch, SCRATCH_CELLS);
     struct counts n = counts_of(d, lent.choice), answered = {r.earned, r.kept};
     expect(r.refusal == 0 && n.earned == r.earned && n.kept == r.kept, "%s: refused with %u, or other counts than the choice's", what, r.refusal);
     return answered;
@@ -73,11 +74,12 @@ static void at_most_one(struct counts old, struct counts new, unsigned kind, con
 static void late_claim(const struct day *d, unsigned card, unsigned shop, unsigned kind, int small, const char *what) {
     struct day more = *d;
     struct file whole;
-    write_day(d, &file);
+    weekday = below(WEEKDAYS);
+    write_day(d, by->layout, &file);
     struct counts old = settled(d, what);
     add_claim(card, shop, kind, d->rows);
     add_row(&more, card, shop, kind);
-    write_day(&more, &whole);
+    write_day(&more, by->layout, &whole);
     expect(file.length == whole.length && memcmp(file.bytes, whole.bytes, whole.length) == 0, "%s: not the file with that row", what);
     struct counts new = settled(&more, what);
     at_most_one(old, new, kind, what);
@@ -152,7 +154,7 @@ static void all_moves_seen(const char *what) {
 }
 
 static void small_days(void) {
-    for (unsigned n = 0; n < 4000; n++) {
+    for (unsigned n = 0; n < 2000; n++) {
         struct day d = drawn(n, 8, SMALL_ROWS);
         several_claims(&d, 2, 1, "a small day");
     }
@@ -174,11 +176,11 @@ static void larger_days(void) {
 /* ---- Claims that may not be added ---- */
 
 static void refused(const struct day *d, unsigned card, unsigned shop, unsigned kind, unsigned number, const char *what) {
-    write_day(d, &file);
+    write_day(d, by->layout, &file);
     add_claim(card, shop, kind, d->rows);
     fill_lent();
     struct claims_settle_answer r =
-        by->settle(file.bytes, file.length, lent.choice, CHOICE_CELLS, lent.sheet, SHEET_CELLS, lent.scratch, SCRATCH_CELLS);
+        by->settle(file.bytes, file.length, weekday, lent.choice, CHOICE_CELLS, lent.sheet, SHEET_CELLS, lent.scratch, SCRATCH_CELLS);
     expect(r.refusal == number && untouched(0, 0, 0), "%s: %u", what, r.refusal);
 }
 

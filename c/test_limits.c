@@ -1,15 +1,17 @@
 /*
- * Tests of fits and rank and of spare places, for each sort of file: the refusals, worked days, and random days against the plain answers
- * of day.h. There the rank is found in three ways: from the last group to the first, as the library does; greedily; and, on small days, by
- * going through all subsets of the selected rows. The spare places are found in two ways: by counting the rows of each group, and by adding
- * rows to the day until one does not fit. The answers for a stored day must be those by its limits as they stand and by the lowered ones.
+ * Tests of fits and rank and of spare places, for each sort of file: the refusals, worked days on each weekday, and random days against
+ * the plain answers of day.h. On the weekdays that are not named a file has other limits, and they must not matter. In day.h the rank is
+ * found in three ways: from the last group to the first, as the library does; greedily; and, on small days, by going through all subsets
+ * of the selected rows. The spare places are found in two ways: by counting the rows of each group, and by adding rows to the day until
+ * one does not fit. The answers for a stored day must be those by its limits as they stand and by the lowered ones.
  */
 #include <stdio.h>
 #include <string.h>
 #include "sorts.h"
 
-/* The sort whose turn it is. */
+/* The sort whose turn it is, and the weekday that the calls name. */
 static const struct sort *by;
+static unsigned weekday;
 
 /* A claim file or a selection that is lent to a call: where it stands and how many bytes it has. */
 struct bytes {
@@ -38,7 +40,7 @@ static void equal(const char *what, unsigned is, unsigned must) { expect(is == m
 
 static struct claims_fits_and_rank_answer fits_and_rank(struct bytes file, struct bytes selection, uint32_t side) {
     remember(file, selection);
-    struct claims_fits_and_rank_answer told = by->fits_and_rank(file.at, file.length, selection.at, selection.length, side);
+    struct claims_fits_and_rank_answer told = by->fits_and_rank(file.at, file.length, selection.at, selection.length, side, weekday);
     unchanged(file, selection);
     return told;
 }
@@ -54,7 +56,7 @@ static void ranked(const char *what, struct bytes file, struct bytes selection, 
 
 static void spare(const char *what, struct bytes file, struct bytes selection, uint32_t row, unsigned refusal, unsigned places) {
     remember(file, selection);
-    struct claims_spare_places_answer told = by->spare_places(file.at, file.length, selection.at, selection.length, row);
+    struct claims_spare_places_answer told = by->spare_places(file.at, file.length, selection.at, selection.length, row, weekday);
     unchanged(file, selection);
     equal(what, told.refusal, refusal);
     equal(what, told.places, places);
@@ -62,7 +64,26 @@ static void spare(const char *what, struct bytes file, struct bytes selection, u
 
 /* ---- Worked days ---- */
 
-#define DAY_A BYTES("\2\0\xff\xff\1\0\xff\xff\1\0\2\0\xff\xff\1\0\xff\xff\1\0\3\0\0\0\0\0\1\0\0\1\0\0\1\0\0\0\0")
+/* A file that holds a day on the weekday. */
+static struct bytes file_of(const struct day *d) {
+    static struct file f;
+    write_among(d, form_of(by, weekday), &f);
+    return (struct bytes){f.bytes, f.length};
+}
+
+static struct bytes file_of_day_a(void) {
+    struct day a = day_a();
+    return file_of(&a);
+}
+
+/* One ordinary row in a card group of the greatest limit, and in a shop group of this limit. */
+static struct bytes file_of_one_row(unsigned limit) {
+    struct day d = flat_day(1, TOP, 1, limit);
+    add_row(&d, 0, 0, 0);
+    return file_of(&d);
+}
+
+#define DAY_A file_of_day_a()
 #define DAY_E BYTES("\0\0\0\0\0\0")
 #define NOTHING BYTES("")
 
@@ -80,7 +101,55 @@ static void refusals(void) {
     spare("no row", DAY_E, NOTHING, 0, CLAIMS_VALUE, 0);
     spare("row selected", DAY_A, BYTES("\0\1\0"), 1, CLAIMS_SELECTED, 0);
     spare("row selected, the selection does not fit", DAY_A, BYTES("\1\0\1"), 2, CLAIMS_SELECTED, 0);
-    part_done("refusals");
+}
+
+/* A day that the week does not have: judged after the lengths, and before the selection's bytes, the side and the row. */
+static void no_such_day(void) {
+    for (unsigned k = 0; k < NO_WEEKDAYS; k++) {
+        struct bytes cut = DAY_A;
+        weekday = no_weekdays[k];
+        ranked("day over 6", DAY_A, BYTES("\1\1\0"), CLAIMS_SHOP, CLAIMS_DAY, 0, 0);
+        ranked("day over 6, a longer selection", DAY_A, BYTES("\1\1\0\0"), CLAIMS_CARD, CLAIMS_DAY, 0, 0);
+        ranked("day over 6, byte over 1", DAY_A, BYTES("\1\2\0"), CLAIMS_CARD, CLAIMS_DAY, 0, 0);
+        ranked("day over 6, side over 1", DAY_A, BYTES("\1\1\0"), 2, CLAIMS_DAY, 0, 0);
+        ranked("day over 6, no row", DAY_E, NOTHING, CLAIMS_CARD, CLAIMS_DAY, 0, 0);
+        ranked("short, day over 6", DAY_A, BYTES("\1\1"), CLAIMS_CARD, CLAIMS_SHORT, 0, 0);
+        spare("day over 6", DAY_A, BYTES("\0\1\0"), 0, CLAIMS_DAY, 0);
+        spare("day over 6, byte over 1", DAY_A, BYTES("\0\2\0"), 0, CLAIMS_DAY, 0);
+        spare("day over 6, row too high", DAY_A, BYTES("\0\1\0"), 3, CLAIMS_DAY, 0);
+        spare("day over 6, row selected", DAY_A, BYTES("\0\1\0"), 1, CLAIMS_DAY, 0);
+        spare("short, day over 6", DAY_A, BYTES("\0\1"), 0, CLAIMS_SHORT, 0);
+        cut.length--;
+        ranked("cut off, day over 6", cut, BYTES("\1\1\0"), CLAIMS_CARD, CLAIMS_CUT_OFF, 0, 0);
+        spare("cut off, day over 6", cut, BYTES("\0\1\0"), 0, CLAIMS_CUT_OFF, 0);
+    }
+    part_done("days over 6");
+}
+
+/*
+ * A week in which every limit tells the weekday: eight ordinary rows in a card group of limit 8 - k and a shop group of limit k + 1 on
+ * weekday k. And a week of limits that differ in their high bytes alone.
+ */
+static void each_weekday(void) {
+    static struct file f;
+    struct day d = flat_day(1, 0, 1, 0);
+    while (d.rows < 8) add_row(&d, 0, 0, 0);
+    struct week w = every_day(&d), high = every_day(&d);
+    for (unsigned k = 0; k < WEEKDAYS; k++) {
+        w.on[k].limit[CARD][0] = (uint16_t)(8 - k), w.on[k].limit[SHOP][0] = (uint16_t)(k + 1);
+        high.on[k].limit[CARD][0] = TOP, high.on[k].limit[SHOP][0] = (uint16_t)(256 * (WEEKDAYS - k));
+    }
+    for (weekday = 0; weekday < WEEKDAYS; weekday++) {
+        write_week(&w, WEEK, &f);
+        struct bytes file = {f.bytes, f.length};
+        ranked("all rows, card", file, BYTES("\1\1\1\1\1\1\1\1"), CLAIMS_CARD, 0, weekday == 0, 8 - weekday);
+        ranked("all rows, shop", file, BYTES("\1\1\1\1\1\1\1\1"), CLAIMS_SHOP, 0, 0, weekday + 1);
+        ranked("three rows, shop", file, BYTES("\1\1\1\0\0\0\0\0"), CLAIMS_SHOP, 0, weekday > 1, weekday > 1 ? 3 : weekday + 1);
+        spare("a row alone", file, BYTES("\0\0\0\0\0\0\0\0"), 7, 0, weekday < 4 ? weekday + 1 : 8 - weekday);
+        write_week(&high, WEEK, &f);
+        spare("high limits", file, BYTES("\1\0\0\0\0\0\0\0"), 7, 0, 256 * (WEEKDAYS - weekday) - 1);
+    }
+    part_done("limits that tell the weekday");
 }
 
 /*
@@ -106,16 +175,8 @@ static void worked_days(void) {
     spare("day A: row 0 beside row 2", DAY_A, BYTES("\0\0\1"), 0, 0, 0);
     spare("day A: row 2 beside rows 0 and 1", DAY_A, BYTES("\1\1\0"), 2, 0, 0);
     spare("day A: row 1 beside rows 0 and 2, which do not fit", DAY_A, BYTES("\1\0\1"), 1, 0, 0);
-    spare("the greatest limit", BYTES("\1\0\xff\xff\xff\xff\1\0\xff\xff\xff\xff\1\0\0\0\0\0\0"), BYTES("\0"), 0, 0, 65535);
-    spare("a limit of 0", BYTES("\1\0\xff\xff\xff\xff\1\0\xff\xff\0\0\1\0\0\0\0\0\0"), BYTES("\0"), 0, 0, 0);
-    part_done("worked days");
-}
-
-/* The file of a day. */
-static struct bytes file_of(const struct day *d) {
-    static struct file f;
-    write_day(d, &f);
-    return (struct bytes){f.bytes, f.length};
+    spare("the greatest limit", file_of_one_row(TOP), BYTES("\0"), 0, 0, TOP);
+    spare("a limit of 0", file_of_one_row(0), BYTES("\0"), 0, 0, 0);
 }
 
 /* A card group at the top: an earned row that names it is held by neither its limit nor the rows in it, but by its shop group alone. */
@@ -132,7 +193,6 @@ static void earned_at_the_top(void) {
     ranked("limit 1: all rows", file_of(&d), BYTES("\1\1\1"), CLAIMS_CARD, 0, 1, 3);
     spare("limit 1: an earned row beside the ordinary one", file_of(&d), BYTES("\0\1\0"), 0, 0, 8);
     spare("limit 1: the ordinary row beside the earned ones", file_of(&d), BYTES("\1\0\1"), 1, 0, 1);
-    part_done("earned rows at the top");
 }
 
 /*
@@ -157,7 +217,6 @@ static void earned_in_a_group(void) {
     ranked("limits 3 and 5: all rows", file_of(&d), BYTES("\1\1\1\1"), CLAIMS_CARD, 0, 0, 3);
     spare("limits 3 and 5: an earned row beside an ordinary one", file_of(&d), BYTES("\1\0\0\0"), 3, 0, 2);
     spare("limits 3 and 5: an ordinary row beside two earned ones", file_of(&d), BYTES("\0\1\0\1"), 0, 0, 1);
-    part_done("earned rows in a group");
 }
 
 /* A selection may be longer than needed, and what lies past the last row is not read. */
@@ -170,7 +229,6 @@ static void lengths(void) {
         ranked("as long as needed or longer", DAY_A, selection, CLAIMS_CARD, 0, 1, 2);
         spare("as long as needed or longer", DAY_A, selection, 0, 0, 0);
     }
-    part_done("lengths");
 }
 
 /* ---- Random days ---- */
@@ -248,15 +306,14 @@ static void answers_of(const struct day *d, struct bytes file, struct bytes sele
 }
 
 /*
- * The answers for a day's file and the selection must be the plain ones: by the limits as they stand and, where the file is a stored one,
- * by the lowered ones as well. The selection is lent with `extra` bytes more than rows.
+ * The answers for the selection and a file that holds a day, on any weekday, must be the plain ones: by the limits as they stand and, where
+ * the file is a stored one, by the lowered ones as well. The selection is lent with `extra` bytes more than rows.
  */
 static void against_plain(const struct day *d, unsigned extra) {
-    static struct file f;
     struct day low = lowered(d);
     unsigned row = d->rows > 0 ? below(d->rows) : 0;
-    write_day(d, &f);
-    struct bytes file = {f.bytes, f.length}, selection = {selected, d->rows + extra};
+    weekday = below(WEEKDAYS);
+    struct bytes file = file_of(d), selection = {selected, d->rows + extra};
     answers_of(d, file, selection, row);
     if (by->stored) answers_of(&low, file, selection, row);
     spare("a row past the last", file, selection, d->rows, CLAIMS_VALUE, 0);
@@ -355,21 +412,31 @@ static void chain_ends(void) {
     part_done("ends of chains");
 }
 
-int main(void) {
-    for (by = sorts; by < sorts + SORTS; by++) {
-        printf("%s\n", by->name);
-        start_numbers(20270301);
+/* On each weekday. */
+static void worked(void) {
+    for (weekday = 0; weekday < WEEKDAYS; weekday++) {
         refusals();
         worked_days();
         earned_at_the_top();
         earned_in_a_group();
         lengths();
-        all_selections("all selections of tiny days", 200);
-        random_days("random small days", 2000, 8, SMALL_ROWS);
-        random_days("random days", 350, 40, 120);
-        random_days("random large days", 50, MOST_GROUPS, MOST_ROWS);
-        full_days("full days", 100);
-        grown_selections("grown selections", 300);
+    }
+    part_done("worked days and lengths");
+}
+
+int main(void) {
+    for (by = sorts; by < sorts + SORTS; by++) {
+        printf("%s\n", by->name);
+        start_numbers(20270301);
+        worked();
+        no_such_day();
+        if (by->layout == WEEK) each_weekday();
+        all_selections("all selections of tiny days", 100);
+        random_days("random small days", 1000, 8, SMALL_ROWS);
+        random_days("random days", 180, 40, 120);
+        random_days("random large days", 25, MOST_GROUPS, MOST_ROWS);
+        full_days("full days", 50);
+        grown_selections("grown selections", 150);
         deep_chains();
         chain_ends();
     }

@@ -1,30 +1,38 @@
 /*
- * Tests of settling, for each sort of file, against document 01's days and against a search through all selections. A stored day is
- * searched with its limits as they stand in the file; its marks must show the choice by the lowered limits.
+ * Tests of settling, for each sort of file, against document 01's days and against a search through all selections. On the weekdays that
+ * are not named a file has other limits, and they must not matter. A stored day is searched with its limits as they stand in the file; its
+ * marks must show the choice by the lowered limits.
  */
+#include <stdio.h>
 #include <string.h>
 #include "lent.h"
 #include "sorts.h"
 
 enum { SMALL_ROWS = 12 };
 
-/* The sort whose turn it is. */
+/* The sort whose turn it is, and the weekday that the calls name. */
 static const struct sort *by;
+static unsigned weekday;
 
 static struct file file;
 
 /* Settles the file, with buffers of so many cells. */
 static struct claims_settle_answer settle_in(size_t choice, size_t sheet, size_t scratch) {
     fill_lent();
-    return by->settle(file.bytes, file.length, lent.choice, choice, lent.sheet, sheet, lent.scratch, scratch);
+    return by->settle(file.bytes, file.length, weekday, lent.choice, choice, lent.sheet, sheet, lent.scratch, scratch);
 }
 
 static size_t marks_of(const struct day *d) { return d->groups[CARD] + d->groups[SHOP] + d->rows; }
 
-/* Settles a day, with buffers longer than needed by `more` cells. */
-static struct claims_settle_answer settle(const struct day *d, size_t more) {
-    write_day(d, &file);
+/* Settles the file of a day, with buffers longer than needed by `more` cells. */
+static struct claims_settle_answer settle_file(const struct day *d, size_t more) {
     return settle_in(d->rows + more, marks_of(d) + more, 8 * marks_of(d) + more);
+}
+
+/* Settles a file that holds a day on the weekday. */
+static struct claims_settle_answer settle(const struct day *d, size_t more) {
+    write_among(d, form_of(by, weekday), &file);
+    return settle_file(d, more);
 }
 
 /* Everything that settle leaves besides which rows are kept. The marks are those of the lowered limits. */
@@ -63,12 +71,6 @@ static void worked(const char *name, const struct day *d, const char *choice, un
 
 /* The marks of the card groups, the shop groups and the rows, in this order. */
 #define MARKS(...) ((const uint32_t[]){__VA_ARGS__})
-
-static struct day day_a(void) {
-    struct day a = flat_day(2, 1, 2, 1);
-    add_row(&a, 0, 0, 1), add_row(&a, 0, 1, 0), add_row(&a, 1, 0, 0);
-    return a;
-}
 
 /* Days A to F of document 01, and day A with all rows ordinary, where whoever keeps rows as they come keeps row 0. */
 static void worked_days(void) {
@@ -143,7 +145,7 @@ static void chains(void) {
 /* Buffers exact and one short, each by itself. */
 static void short_buffers(void) {
     struct day a = day_a();
-    write_day(&a, &file);
+    write_day(&a, by->layout, &file);
     for (int one = 0; one < 3; one++) {
         size_t have[3] = {3, 7, 56};
         have[one]--;
@@ -153,9 +155,80 @@ static void short_buffers(void) {
     expect(turned_away(settle_in(0, 0, 0), CLAIMS_CUT_OFF), "the file's own fault before short buffers");
 }
 
+/* A day that the week does not have, judged after the file and the lengths. */
+static void no_such_day(void) {
+    struct day a = day_a(), none = flat_day(0, 0, 0, 0);
+    for (unsigned k = 0; k < NO_WEEKDAYS; k++) {
+        weekday = no_weekdays[k];
+        expect(turned_away(settle(&none, 0), CLAIMS_DAY), "day %u, no group and no claim", weekday);
+        expect(turned_away(settle(&a, 0), CLAIMS_DAY), "day %u", weekday);
+        expect(turned_away(settle(&a, PAST), CLAIMS_DAY), "day %u, longer buffers", weekday);
+        for (int one = 0; one < 3; one++) {
+            size_t have[3] = {3, 7, 56};
+            have[one]--;
+            expect(turned_away(settle_in(have[0], have[1], have[2]), CLAIMS_SHORT), "day %u, a buffer one short", weekday);
+        }
+        file.bytes[file.length++] = 0;
+        expect(turned_away(settle_in(3, 7, 56), CLAIMS_TRAILING), "day %u, one byte too many", weekday);
+    }
+}
+
+/*
+ * A week whose choice tells the weekday: on weekday k the card group has limit k, and there are seven ordinary rows and an earned one. The
+ * shop group holds them all.
+ */
+static void each_weekday(void) {
+    struct day d = flat_day(1, 0, 1, 9);
+    while (d.rows < 8) add_row(&d, 0, 0, d.rows == 3);
+    struct week w = every_day(&d);
+    for (unsigned k = 0; k < WEEKDAYS; k++) w.on[k].limit[CARD][0] = (uint16_t)k;
+    write_week(&w, WEEK, &file);
+    for (weekday = 0; weekday < WEEKDAYS; weekday++) {
+        struct claims_settle_answer r = settle_file(&d, 0);
+        expect(left_well(&w.on[weekday], r) && r.earned == 1 && r.kept == weekday + 1, "weekday %u: the numbers", weekday);
+        for (unsigned c = 0; c < d.rows; c++)
+            expect(lent.choice[c] == (c == 3 || c < weekday + (weekday > 3)), "weekday %u: row %u", weekday, c);
+    }
+}
+
+/* The sample whose limits differ by weekday: three rows are kept on day 0, two on days 1 to 4, four on day 5 and none on day 6. */
+static void sample(void) {
+    static const char *const kept[WEEKDAYS] = {"\0\1\1\0\0\1", "\0\1\0\0\0\1", "\0\1\0\0\0\1", "\0\1\0\0\0\1",
+                                               "\0\1\0\0\0\1", "\0\1\1\1\0\1", "\0\0\0\0\0\0"};
+    struct day d = {0};
+    FILE *in = fopen("samples/week.claims", "rb");
+    file.length = in == NULL ? 0 : fread(file.bytes, 1, sizeof file.bytes, in);
+    if (in != NULL) fclose(in);
+    for (weekday = 0; weekday < WEEKDAYS; weekday++) {
+        unsigned fault = read_day(file.bytes, file.length, form_of(by, weekday), &d);
+        expect(fault == 0 && d.rows == 6 && left_well(&d, settle_file(&d, 0)), "the sample on weekday %u", weekday);
+        expect(memcmp(lent.choice, kept[weekday], 6) == 0, "the sample on weekday %u: the choice", weekday);
+    }
+}
+
+/* Each weekday of a random week, from one file, against the search. */
+static void random_weeks(void) {
+    unsigned differ = 0;
+    for (int n = 0; n < 40; n++) {
+        struct day d = random_day(8, SMALL_ROWS - 2);
+        struct week w = drawn_week(&d, 0), low = lowered_week(&w);
+        uint8_t best[WEEKDAYS][SMALL_ROWS];
+        if (by->stored == NEW) w = low;
+        write_week(&w, WEEK, &file);
+        for (weekday = 0; weekday < WEEKDAYS; weekday++) {
+            struct claims_settle_answer r = settle_file(&d, 0);
+            search_all(&w.on[weekday], 2, best[weekday]);
+            expect(left_well(&w.on[weekday], r) && memcmp(lent.choice, best[weekday], d.rows) == 0, "a random week on weekday %u", weekday);
+            differ += memcmp(best[weekday], best[0], d.rows) != 0;
+        }
+    }
+    expect(differ > 40, "on %u weekdays only other rows are kept than on weekday 0", differ);
+}
+
 static void random_days(void) {
     unsigned too_great = 0;
-    for (int n = 0; n < 600; n++) {
+    for (int n = 0; n < 300; n++) {
+        weekday = below(WEEKDAYS);
         struct day d = day_for(by, random_day(8, SMALL_ROWS));
         uint8_t best[SMALL_ROWS];
         struct claims_settle_answer r = settle(&d, below(2) ? PAST : 0);
@@ -169,7 +242,8 @@ static void random_days(void) {
 
 /* Full size: the choice fits, the certificate holds, and no cell past the needed ones changed. */
 static void large_days(void) {
-    for (int n = 0; n < 20; n++) {
+    for (int n = 0; n < 10; n++) {
+        weekday = below(WEEKDAYS);
         struct day d = flat_day(MOST_GROUPS, 1, MOST_GROUPS, 1);
         for (unsigned side = 0; side < 2; side++) {
             if (n % 4 == 1) hang_chains(&d, side, 1);
@@ -179,7 +253,7 @@ static void large_days(void) {
         d = day_for(by, d);
         draw_rows(&d, MOST_ROWS, 2);
         struct claims_settle_answer r = settle(&d, 0);
-        expect(file.length == MOST_FILE, "the longest file");
+        expect(file.length == (by->layout == WEEK ? MOST_FILE : MOST_OLD_FILE), "the longest file");
         expect(left_well(&d, r), "a day of the largest size");
         file.bytes[file.length++] = 0;
         expect(turned_away(settle_in(MOST_ROWS, MOST_MARKS, 8 * MOST_MARKS), CLAIMS_TRAILING), "one byte too many");
@@ -197,7 +271,7 @@ static void bounds(void) {
     while (m.rows < MOST_ROWS) add_row(&m, 0, 0, m.rows % 2);
     r = settle(&m, 0);
     expect(left_well(&m, r) && r.kept == MOST_ROWS && r.earned == MOST_ROWS / 2, "the most claims, all kept");
-    put16(file.bytes + 12, MOST_ROWS + 1);
+    put16(file.bytes + (by->layout == WEEK ? 36 : 12), MOST_ROWS + 1);
     expect(turned_away(settle_in(CHOICE_CELLS, SHEET_CELLS, SCRATCH_CELLS), CLAIMS_CLAIM_COUNT), "one claim more than the most");
     p.parent[CARD][2] = 1;
     r = settle(&p, 0);
@@ -209,11 +283,20 @@ static void bounds(void) {
 int main(void) {
     for (by = sorts; by < sorts + SORTS; by++) {
         start_numbers(20270301);
-        worked_days();
-        earned_rows();
+        for (weekday = 0; weekday < WEEKDAYS; weekday++) {
+            worked_days();
+            earned_rows();
+            short_buffers();
+            bounds();
+        }
+        no_such_day();
+        weekday = WEEKDAYS - 1;
         chains();
-        short_buffers();
-        bounds();
+        if (by->layout == WEEK) {
+            each_weekday();
+            sample();
+            random_weeks();
+        }
         random_days();
         large_days();
         part_done(by->name);

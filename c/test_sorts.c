@@ -1,7 +1,8 @@
 /*
- * Tests of the sorts of file, with all calls on a file. A faulty file is refused by its own number, whatever is lent, and nothing is
- * changed. A limit above its parent's is refused in a new file, with 11, and lowered in a stored one: what the calls answer and leave for
- * a stored file, they answer and leave for the same day lowered, in a stored file and in a new one.
+ * Tests of the sorts of file, with all calls on a file. A faulty file is refused by its own number, whatever is lent and whichever day is
+ * named, and nothing is changed. A limit above its parent's, on any weekday, is refused in a new file, with 11, and lowered in a stored
+ * one: what the calls answer and leave for a stored file, they answer and leave for the same week lowered, in a stored file and in a new
+ * one. And what they answer and leave for a file in the old layout, they answer and leave for the same week in the week layout.
  */
 #include <stdio.h>
 #include <string.h>
@@ -48,41 +49,63 @@ struct told {
     struct lent lent;
 };
 
-/* Makes all calls of a sort on a file. */
-static void ask(const struct sort *by, const struct file *f, const struct lengths *n, unsigned row, struct told *t) {
+/* Makes all calls of a sort on a file. They name the weekday, or what stands in its place. */
+static void ask(const struct sort *by, const struct file *f, unsigned weekday, const struct lengths *n, unsigned row, struct told *t) {
     struct lent *l = &t->lent;
     memset(l, FILL, sizeof *l);
     for (unsigned side = 0; side < SIDES; side++)
-        t->ranked[side] = by->fits_and_rank(f->bytes, f->length, selection, n->selection, side);
-    t->spare = by->spare_places(f->bytes, f->length, selection, n->selection, row);
-    t->settled = by->settle(f->bytes, f->length, l->choice, n->choice, l->sheet, n->sheet, l->scratch, n->scratch);
-    t->slip = by->write_slip(f->bytes, f->length, selection, n->selection, l->slip, n->slip);
+        t->ranked[side] = by->fits_and_rank(f->bytes, f->length, selection, n->selection, side, weekday);
+    t->spare = by->spare_places(f->bytes, f->length, selection, n->selection, row, weekday);
+    t->settled = by->settle(f->bytes, f->length, weekday, l->choice, n->choice, l->sheet, n->sheet, l->scratch, n->scratch);
+    t->slip = by->write_slip(f->bytes, f->length, selection, n->selection, weekday, l->slip, n->slip);
     t->canonical = by->write_canonical(f->bytes, f->length, l->canonical, n->canonical);
-    t->codes = by->write_codes(f->bytes, f->length, l->codes, n->codes, l->codes_scratch, n->scratch);
+    t->codes = by->write_codes(f->bytes, f->length, weekday, l->codes, n->codes, l->codes_scratch, n->scratch);
 }
 
-/* Whether the calls gave the number alone and changed nothing. */
-static int turned_away(const struct told *t, unsigned number) {
+/* Whether the calls that name a day gave the number alone, and changed nothing. */
+static int calls_gave(const struct told *t, unsigned number) {
     static struct lent before;
     memset(&before, FILL, sizeof before);
+    memcpy(before.canonical, t->lent.canonical, sizeof before.canonical);
     for (unsigned side = 0; side < SIDES; side++)
         if (t->ranked[side].refusal != number || t->ranked[side].fits != 0 || t->ranked[side].rank != 0) return 0;
     return t->spare.refusal == number && t->spare.places == 0 && t->settled.refusal == number && t->settled.earned == 0 &&
            t->settled.kept == 0 && t->settled.total == 0 && t->slip.refusal == number && t->slip.length == 0 &&
-           t->canonical.refusal == number && t->canonical.length == 0 && t->codes.refusal == number && t->codes.length == 0 &&
-           memcmp(&t->lent, &before, sizeof before) == 0;
+           t->codes.refusal == number && t->codes.length == 0 && memcmp(&t->lent, &before, sizeof before) == 0;
 }
 
-/* The file is judged first: it is refused by its own number with all that a call may need, and with nothing. */
-static void refused(const char *what, const struct sort *by, const struct file *f, unsigned number) {
+/* Whether the canonical form, which names no day, did so. */
+static int form_gave(const struct told *t, unsigned number) {
+    for (size_t i = 0; i < sizeof t->lent.canonical; i++)
+        if (t->lent.canonical[i] != FILL) return 0;
+    return t->canonical.refusal == number && t->canonical.length == 0;
+}
+
+/* A day that the week does not have. */
+static unsigned no_weekday(void) { return no_weekdays[below(NO_WEEKDAYS)]; }
+
+static void refused_with(const char *what, const struct sort *by, const struct file *f, unsigned weekday, const struct lengths *n,
+                         unsigned number) {
     static struct told t;
-    ask(by, f, &longest, MOST_ROWS, &t);
-    expect(turned_away(&t, number), "%s, %s: not refused with %u", by->name, what, number);
-    ask(by, f, &nothing, MOST_ROWS, &t);
-    expect(turned_away(&t, number), "%s, %s: not refused with %u where nothing is lent", by->name, what, number);
+    ask(by, f, weekday, n, MOST_ROWS, &t);
+    expect(calls_gave(&t, number) && form_gave(&t, number), "%s, %s, day %u: not refused with %u", by->name, what, weekday, number);
 }
 
-/* ---- A day, and the same day lowered ---- */
+/* The file is judged first: it is refused by its own number with all that a call may need, with nothing, and on a day over 6. */
+static void refused(const char *what, const struct sort *by, const struct file *f, unsigned number) {
+    refused_with(what, by, f, below(WEEKDAYS), &longest, number);
+    refused_with(what, by, f, below(WEEKDAYS), &nothing, number);
+    refused_with(what, by, f, no_weekday(), below(2) ? &longest : &nothing, number);
+}
+
+/* A week that is refused, by this number, in a new file of a layout. */
+static void refused_new(const char *what, const struct week *w, unsigned layout, unsigned number) {
+    static struct file f;
+    write_week(w, layout, &f);
+    refused(what, &sorts[layout == WEEK ? NEW_WEEK : NEW_OLD], &f, number);
+}
+
+/* ---- A week, and the same week lowered and in the other layout ---- */
 
 /* The same answers, and the same left in what is lent, the marks too: they are those of the lowered limits and show the choice by these. */
 static void same_told(const char *what, const struct day *low, const struct told *a, const struct told *b) {
@@ -109,32 +132,59 @@ static void same_told(const char *what, const struct day *low, const struct told
     expect(memcmp(l->codes_scratch, m->codes_scratch, sizeof l->codes_scratch) == 0, "%s: the codes' scratch", what);
 }
 
-/*
- * The same is told of a day in a stored file, of the day lowered in a stored file, and of the day lowered in a new one. Where a limit is
- * above its parent's, a new file that holds the day is refused.
- */
-static void lowered_alike(const struct day *d) {
-    static struct file file, low_file;
-    static struct told stored, low_stored, low_new;
-    struct day low = lowered(d);
-    unsigned row = d->rows > 0 ? below(d->rows) : 0;
-    for (unsigned c = 0; c < d->rows; c++) selection[c] = below(4) == 0;
-    write_day(d, &file);
-    write_day(&low, &low_file);
-    ask(&sorts[STORED], &file, &longest, row, &stored);
-    ask(&sorts[STORED], &low_file, &longest, row, &low_stored);
-    ask(&sorts[NEW], &low_file, &longest, row, &low_new);
-    same_told("as stored, and lowered in a new file", &low, &stored, &low_new);
-    same_told("lowered, in a stored file and in a new one", &low, &low_stored, &low_new);
-    if (!is_new(d)) refused("a limit above its parent's", &sorts[NEW], &file, CLAIMS_LIMIT_ABOVE);
+/* All calls of the sort that has this layout and is new or stored, on a week. */
+static void ask_week(const struct week *w, unsigned layout, unsigned stored, unsigned weekday, unsigned row, struct told *t) {
+    static struct file f;
+    write_week(w, layout, &f);
+    ask(&sorts[layout == WEEK ? stored ? STORED_WEEK : NEW_WEEK : stored ? STORED_OLD : NEW_OLD], &f, weekday, &longest, row, t);
 }
 
+/*
+ * The same is told, on a weekday, of a week in a stored file of a layout, of the week lowered in a stored file and in a new one of that
+ * layout, and of the week lowered in a new file of the week layout. Where a limit is above its parent's, on any weekday, a new file that
+ * holds the week is refused. In the old layout the week has the same limits on all weekdays.
+ */
+static void alike_in(const struct week *w, unsigned layout, unsigned weekday) {
+    static struct week low;
+    static struct told told, low_new;
+    const struct day *d = &w->on[weekday];
+    unsigned row = d->rows > 0 ? below(d->rows) : 0;
+    for (unsigned c = 0; c < d->rows; c++) selection[c] = below(4) == 0;
+    low = lowered_week(w);
+    ask_week(&low, WEEK, NEW, weekday, row, &low_new);
+    ask_week(w, layout, STORED, weekday, row, &told);
+    same_told("as stored, and lowered in a new file", &low.on[weekday], &told, &low_new);
+    ask_week(&low, layout, STORED, weekday, row, &told);
+    same_told("lowered, in a stored file and in a new one", &low.on[weekday], &told, &low_new);
+    if (layout == OLD) {
+        ask_week(&low, OLD, NEW, weekday, row, &told);
+        same_told("lowered, in new files of both layouts", &low.on[weekday], &told, &low_new);
+    }
+    if (!is_new_week(w)) refused_new("a limit above its parent's", w, layout, CLAIMS_LIMIT_ABOVE);
+}
+
+/* The limits differ by weekday. */
+static void week_alike(const struct week *w) { alike_in(w, WEEK, below(WEEKDAYS)); }
+
+/* The limits are the same on all weekdays, so that the old layout has the week too. */
+static void day_alike(const struct day *d) {
+    static struct week w;
+    w = every_day(d);
+    alike_in(&w, WEEK, below(WEEKDAYS));
+    alike_in(&w, OLD, below(WEEKDAYS));
+}
+
+/* Days with the same limits on all weekdays, and weeks whose limits differ, of which every other one is as a new file may hold it. */
 static void random_days(const char *name, unsigned days, unsigned groups, unsigned rows) {
+    static struct week w;
     unsigned high = 0;
     for (unsigned i = 0; i < days; i++) {
         struct day d = random_day(groups, rows);
         high += !is_new(&d);
-        lowered_alike(&d);
+        day_alike(&d);
+        w = drawn_week(&d, below(WEEKDAYS));
+        if (below(2)) w = lowered_week(&w);
+        week_alike(&w);
     }
     expect(high > days / 2, "%s: in %u of %u a limit is above its parent's", name, high, days);
     part_done(name);
@@ -150,6 +200,17 @@ static unsigned chain_limit(unsigned shape, unsigned g) {
     }
 }
 
+/* A week whose limits fall on one weekday, rise on the next, and so on. */
+static void week_of_chains(void) {
+    static struct week w;
+    struct day d = chain_day(0);
+    w = every_day(&d);
+    for (unsigned k = 0; k < WEEKDAYS; k++)
+        for (unsigned side = 0; side < 2; side++)
+            for (unsigned g = 0; g < MOST_GROUPS; g++) w.on[k].limit[side][g] = (uint16_t)chain_limit(k % 4, g);
+    for (unsigned weekday = 0; weekday < WEEKDAYS; weekday++) alike_in(&w, WEEK, weekday);
+}
+
 static void chains(void) {
     for (unsigned shape = 0; shape < 4; shape++)
         for (unsigned spread = 0; spread < 2; spread++) {
@@ -159,9 +220,28 @@ static void chains(void) {
                 for (unsigned c = 0; spread && c < d.rows; c++) d.group[side][c] = (uint16_t)below(MOST_GROUPS);
             }
             expect(is_new(&d) == (shape == 0), "only the falling limits are a new file's");
-            lowered_alike(&d);
+            day_alike(&d);
         }
+    week_of_chains();
     part_done("chains");
+}
+
+/* What settle must tell of a day in a stored file of either layout: the numbers, the choice, and marks that show it. */
+static void settled_stored(const char *what, const struct day *d, unsigned earned, unsigned kept, unsigned total, const char *choice,
+                           const uint32_t *marks) {
+    static struct week w;
+    static struct told t;
+    struct day low = lowered(d);
+    w = every_day(d);
+    for (unsigned layout = OLD; layout <= WEEK; layout++) {
+        ask_week(&w, layout, STORED, below(WEEKDAYS), 0, &t);
+        expect(t.settled.refusal == 0 && t.settled.earned == earned && t.settled.kept == kept && t.settled.total == total,
+               "%s, stored: the numbers", what);
+        expect(memcmp(t.lent.choice, choice, d->rows) == 0, "%s, stored: the choice", what);
+        expect(certified(&low, 2, t.lent.choice, t.lent.sheet) && certified(&low, 2, t.lent.choice, marks), "%s, stored: the marks", what);
+        refused_new(what, &w, layout, CLAIMS_LIMIT_ABOVE);
+    }
+    day_alike(d);
 }
 
 /*
@@ -170,20 +250,12 @@ static void chains(void) {
  */
 static void day_b(void) {
     static const uint32_t marks[] = {0, 0, 0, 1, 0, 3, 0, 0, 0};
-    static struct file f;
-    static struct told t;
     struct day b = flat_day(3, 1, 3, 1);
     b.limit[SHOP][0] = 2, b.limit[SHOP][1] = 5, b.parent[SHOP][1] = b.parent[SHOP][2] = 0;
     add_row(&b, 0, 2, 0), add_row(&b, 1, 2, 1), add_row(&b, 2, 1, 0);
-    write_day(&b, &f);
-    refused("day B", &sorts[NEW], &f, CLAIMS_LIMIT_ABOVE);
     struct day low = lowered(&b);
     expect(low.limit[SHOP][1] == 2, "s1 is lowered to 2");
-    ask(&sorts[STORED], &f, &longest, 0, &t);
-    expect(t.settled.refusal == 0 && t.settled.earned == 1 && t.settled.kept == 2 && t.settled.total == 5, "day B, stored: the numbers");
-    expect(memcmp(t.lent.choice, "\0\1\1", 3) == 0, "day B, stored: the choice");
-    expect(certified(&low, 2, t.lent.choice, t.lent.sheet) && certified(&low, 2, t.lent.choice, marks), "day B, stored: the marks");
-    lowered_alike(&b);
+    settled_stored("day B", &b, 1, 2, 5, "\0\1\1", marks);
     part_done("day B");
 }
 
@@ -194,21 +266,59 @@ static void day_b(void) {
  */
 static void earned_lowered(void) {
     static const uint32_t marks[] = {0, 4, 0, 0, 0, 0, 0};
-    static struct file f;
-    static struct told t;
     struct day d = flat_day(3, 5, 1, 9);
     hang_chains(&d, CARD, 1);
     d.limit[CARD][0] = 1;
     add_row(&d, 2, 0, 1), add_row(&d, 2, 0, 1), add_row(&d, 2, 0, 0);
-    write_day(&d, &f);
-    struct day low = lowered(&d);
-    ask(&sorts[STORED], &f, &longest, 0, &t);
-    expect(t.settled.refusal == 0 && t.settled.earned == 1 && t.settled.kept == 1 && t.settled.total == 4, "earned, stored: the numbers");
-    expect(memcmp(t.lent.choice, "\1\0\0", 3) == 0, "earned, stored: the choice");
-    expect(certified(&low, 2, t.lent.choice, t.lent.sheet) && certified(&low, 2, t.lent.choice, marks), "earned, stored: the marks");
-    expect(!certified(&d, 2, t.lent.choice, marks), "earned, stored: the marks by the limits as they stand");
-    lowered_alike(&d);
+    expect(!certified(&d, 2, (const uint8_t *)"\1\0\0", marks), "earned rows: the marks by the limits as they stand");
+    settled_stored("earned rows", &d, 1, 1, 4, "\1\0\0", marks);
     part_done("earned rows under lowered limits");
+}
+
+/* ---- Files as bytes ---- */
+
+/* A limit as it stands in a record: once in the old layout, and seven times in the week layout. */
+#define ONCE(limit) limit
+#define SEVEN(limit) limit limit limit limit limit limit limit
+#define BYTES(text) (const uint8_t *)(text), sizeof(text) - 1
+
+struct bytes {
+    const char *what;
+    const uint8_t *at;
+    size_t length;
+    unsigned told[2]; /* of a new file, and of a stored one */
+};
+
+static void copy_bytes(const struct bytes *b, struct file *f) {
+    f->length = b->length;
+    memcpy(f->bytes, b->at, b->length);
+}
+
+/* Day A of document 01. */
+#define DAY_A(L)                                                                                                                           \
+    {"day A",                                                                                                                              \
+     BYTES("\2\0\xff\xff" L("\1\0") "\xff\xff" L("\1\0") "\2\0\xff\xff" L("\1\0") "\xff\xff" L("\1\0")                                     \
+               "\3\0\0\0\0\0\1\0\0\1\0\0\1\0\0\0\0"),                                                                                      \
+     {0, 0}}
+static const struct bytes a_bytes[] = {[OLD] = DAY_A(ONCE), [WEEK] = DAY_A(SEVEN)};
+
+/* It is settled alike by the calls of each sort, on each weekday. Taken for the other layout, its second record has a wrong parent. */
+static void day_a_as_bytes(void) {
+    static struct file f;
+    static struct told t;
+    expect(a_bytes[OLD].length == 37 && a_bytes[WEEK].length == 85, "the lengths of day A");
+    for (const struct sort *by = sorts; by < sorts + SORTS; by++) {
+        copy_bytes(&a_bytes[by->layout], &f);
+        for (unsigned weekday = 0; weekday < WEEKDAYS; weekday++) {
+            ask(by, &f, weekday, &longest, 0, &t);
+            expect(t.settled.refusal == 0 && t.settled.earned == 1 && t.settled.kept == 2 && t.settled.total == 5, "day A: the numbers");
+            expect(memcmp(t.lent.choice, "\1\1\0", 3) == 0, "day A: the choice");
+            expect(t.canonical.length == 85 && memcmp(t.lent.canonical, a_bytes[WEEK].at, 85) == 0, "day A: the form in the week layout");
+        }
+        copy_bytes(&a_bytes[1 - by->layout], &f);
+        refused("day A in the other layout", by, &f, CLAIMS_PARENT);
+    }
+    part_done("day A as bytes");
 }
 
 /* ---- Faults ---- */
@@ -217,68 +327,101 @@ static void earned_lowered(void) {
  * Document 01's examples, and then files with a limit above its parent's and a fault after it or on the same record: what is told of each
  * as a new file, and as a stored one.
  */
-#define BYTES(text) (const uint8_t *)(text), sizeof(text) - 1
-static const struct {
-    const char *what;
-    const uint8_t *bytes;
-    size_t length;
-    unsigned told[2];
-} faulty[] = {
-    {"cut off", BYTES("\0"), {CLAIMS_CUT_OFF, CLAIMS_CUT_OFF}},
-    {"group count", BYTES("\1\1"), {CLAIMS_GROUP_COUNT, CLAIMS_GROUP_COUNT}},
-    {"parent", BYTES("\1\0\0\0\5\0"), {CLAIMS_PARENT, CLAIMS_PARENT}},
-    {"claim count", BYTES("\0\0\0\0\1\2"), {CLAIMS_CLAIM_COUNT, CLAIMS_CLAIM_COUNT}},
-    {"no such group", BYTES("\0\0\0\0\1\0\0\0\0\0\0"), {CLAIMS_NO_SUCH_GROUP, CLAIMS_NO_SUCH_GROUP}},
-    {"kind", BYTES("\1\0\xff\xff\1\0\1\0\xff\xff\1\0\1\0\0\0\0\0\2"), {CLAIMS_KIND, CLAIMS_KIND}},
-    {"trailing", BYTES("\0\0\0\0\0\0\0"), {CLAIMS_TRAILING, CLAIMS_TRAILING}},
-    {"limit above, then cut off", BYTES("\2\0\xff\xff\2\0\0\0\3\0"), {CLAIMS_LIMIT_ABOVE, CLAIMS_CUT_OFF}},
-    {"limit above, then group count", BYTES("\2\0\xff\xff\2\0\0\0\3\0\1\1"), {CLAIMS_LIMIT_ABOVE, CLAIMS_GROUP_COUNT}},
-    {"limit above, then parent", BYTES("\3\0\xff\xff\2\0\0\0\3\0\2\0\1\0"), {CLAIMS_LIMIT_ABOVE, CLAIMS_PARENT}},
-    {"limit above, then claim count", BYTES("\0\0\2\0\xff\xff\2\0\0\0\3\0\1\2"), {CLAIMS_LIMIT_ABOVE, CLAIMS_CLAIM_COUNT}},
-    {"limit above, then no group", BYTES("\0\0\2\0\xff\xff\2\0\0\0\3\0\1\0\0\0\0\0\0"), {CLAIMS_LIMIT_ABOVE, CLAIMS_NO_SUCH_GROUP}},
-    {"limit above, then kind", BYTES("\1\0\xff\xff\1\0\2\0\xff\xff\2\0\0\0\3\0\1\0\0\0\0\0\2"), {CLAIMS_LIMIT_ABOVE, CLAIMS_KIND}},
-    {"limit above, then trailing", BYTES("\2\0\xff\xff\2\0\0\0\3\0\0\0\0\0\0"), {CLAIMS_LIMIT_ABOVE, CLAIMS_TRAILING}},
-    {"parent and limit of one record", BYTES("\2\0\xff\xff\2\0\1\0\3\0"), {CLAIMS_PARENT, CLAIMS_PARENT}},
-    {"parent, then limit above", BYTES("\3\0\xff\xff\2\0\1\0\1\0\0\0\3\0"), {CLAIMS_PARENT, CLAIMS_PARENT}},
-    {"limit above, but its record is cut off", BYTES("\2\0\xff\xff\2\0\0\0\3"), {CLAIMS_CUT_OFF, CLAIMS_CUT_OFF}},
-};
+#define FAULTY(L)                                                                                                                          \
+    {"cut off", BYTES("\0"), {1, 1}},                                                                                                      \
+    {"group count", BYTES("\1\1"), {2, 2}},                                                                                                \
+    {"parent", BYTES("\1\0\0\0" L("\5\0")), {3, 3}},                                                                                       \
+    {"claim count", BYTES("\0\0\0\0\1\2"), {4, 4}},                                                                                        \
+    {"no such group", BYTES("\0\0\0\0\1\0\0\0\0\0\0"), {5, 5}},                                                                            \
+    {"kind", BYTES("\1\0\xff\xff" L("\1\0") "\1\0\xff\xff" L("\1\0") "\1\0\0\0\0\0\2"), {6, 6}},                                           \
+    {"trailing", BYTES("\0\0\0\0\0\0\0"), {7, 7}},                                                                                         \
+    {"limit above, then cut off", BYTES("\2\0\xff\xff" L("\2\0") "\0\0" L("\3\0")), {11, 1}},                                              \
+    {"limit above, then group count", BYTES("\2\0\xff\xff" L("\2\0") "\0\0" L("\3\0") "\1\1"), {11, 2}},                                   \
+    {"limit above, then parent", BYTES("\3\0\xff\xff" L("\2\0") "\0\0" L("\3\0") "\2\0" L("\1\0")), {11, 3}},                              \
+    {"limit above, then claim count", BYTES("\0\0\2\0\xff\xff" L("\2\0") "\0\0" L("\3\0") "\1\2"), {11, 4}},                               \
+    {"limit above, then no group", BYTES("\0\0\2\0\xff\xff" L("\2\0") "\0\0" L("\3\0") "\1\0\0\0\0\0\0"), {11, 5}},                        \
+    {"limit above, then kind",                                                                                                             \
+     BYTES("\1\0\xff\xff" L("\1\0") "\2\0\xff\xff" L("\2\0") "\0\0" L("\3\0") "\1\0\0\0\0\0\2"), {11, 6}},                                 \
+    {"limit above, then trailing", BYTES("\2\0\xff\xff" L("\2\0") "\0\0" L("\3\0") "\0\0\0\0\0"), {11, 7}},                                \
+    {"parent and limit of one record", BYTES("\2\0\xff\xff" L("\2\0") "\1\0" L("\3\0")), {3, 3}},                                          \
+    {"parent, then limit above", BYTES("\3\0\xff\xff" L("\2\0") "\1\0" L("\1\0") "\0\0" L("\3\0")), {3, 3}},                               \
+    {"limit above, but its record is cut off", BYTES("\2\0\xff\xff" L("\2\0") "\0\0\3"), {1, 1}}
+static const struct bytes faulty[][17] = {[OLD] = {FAULTY(ONCE)}, [WEEK] = {FAULTY(SEVEN)}};
 
 static void faulty_files(void) {
     static struct file f;
     memset(selection, 2, sizeof selection);
-    for (size_t i = 0; i < sizeof faulty / sizeof *faulty; i++) {
-        f.length = faulty[i].length;
-        memcpy(f.bytes, faulty[i].bytes, f.length);
-        for (unsigned s = 0; s < SORTS; s++) refused(faulty[i].what, &sorts[s], &f, faulty[i].told[sorts[s].stored]);
-    }
+    for (const struct sort *by = sorts; by < sorts + SORTS; by++)
+        for (size_t i = 0; i < sizeof faulty[0] / sizeof *faulty[0]; i++) {
+            const struct bytes *b = &faulty[by->layout][i];
+            copy_bytes(b, &f);
+            refused(b->what, by, &f, b->told[by->stored]);
+        }
     part_done("faulty files");
 }
 
-/* Where the record of a group starts in a day's file. */
-static size_t record_of(const struct day *d, unsigned side, unsigned g) { return 2 + side * (4 * d->groups[CARD] + 2) + 4 * g; }
+/* Where the record of a group ends in the file of a day. */
+static size_t behind_record(const struct day *d, unsigned layout, unsigned side, unsigned g) {
+    size_t width = layout == WEEK ? 16 : 4;
+    return 2 + side * (width * d->groups[CARD] + 2) + width * (g + 1);
+}
+
+/* A week with a limit above its parent's: the file is cut behind the group's record, and in it; then the group is its own parent too. */
+static void cut_above(struct week *w, unsigned layout, unsigned side, unsigned g) {
+    static struct file f;
+    for (const struct sort *by = sorts; by < sorts + SORTS; by++) {
+        if (by->layout != layout) continue;
+        write_week(w, layout, &f);
+        f.length = behind_record(&w->on[0], layout, side, g);
+        refused("cut behind the record", by, &f, by->stored ? CLAIMS_CUT_OFF : CLAIMS_LIMIT_ABOVE);
+        f.length--;
+        refused("cut in the record", by, &f, CLAIMS_CUT_OFF);
+    }
+    for (unsigned k = 0; k < WEEKDAYS; k++) w->on[k].parent[side][g] = (uint16_t)g;
+    for (const struct sort *by = sorts; by < sorts + SORTS; by++) {
+        write_week(w, layout, &f);
+        if (by->layout == layout) refused("its own parent, and the limit above", by, &f, CLAIMS_PARENT);
+    }
+}
 
 /*
- * One limit of a day whose limits are all equal: as it is, and one above its parent's. Then the file is cut behind the record, and in it;
- * and then the group is its own parent as well, which is judged before.
+ * One limit of a day whose limits are all equal: as it is; one above its parent's on all weekdays, in both layouts; and so on one weekday
+ * alone. The named day is any.
  */
 static void one_above(struct day d, unsigned side, unsigned g) {
-    static struct file f;
+    static struct week w;
     if (d.parent[side][g] == TOP) d.parent[side][g] = 0;
     expect(is_new(&d), "equal limits are a new file's");
-    lowered_alike(&d);
+    day_alike(&d);
+    w = every_day(&d);
+    w.on[below(WEEKDAYS)].limit[side][g]++;
+    expect(!is_new_week(&w), "a limit above its parent's on one weekday is not");
+    week_alike(&w);
+    cut_above(&w, WEEK, side, g);
     d.limit[side][g]++;
     expect(!is_new(&d), "a limit above its parent's is not");
-    lowered_alike(&d);
-    write_day(&d, &f);
-    for (unsigned s = 0; s < SORTS; s++) {
-        f.length = record_of(&d, side, g) + 4;
-        refused("cut behind the record", &sorts[s], &f, sorts[s].stored ? CLAIMS_CUT_OFF : CLAIMS_LIMIT_ABOVE);
-        f.length--;
-        refused("cut in the record", &sorts[s], &f, CLAIMS_CUT_OFF);
-    }
-    d.parent[side][g] = (uint16_t)g;
-    write_day(&d, &f);
-    for (unsigned s = 0; s < SORTS; s++) refused("its own parent, and the limit above", &sorts[s], &f, CLAIMS_PARENT);
+    day_alike(&d);
+    w = every_day(&d);
+    cut_above(&w, OLD, side, g);
+}
+
+/* Above on each weekday alone, and each day named, also ones that the week does not have: 11 is told of the new file. */
+static void above_on_one_day(void) {
+    static struct file f;
+    static struct week w;
+    for (unsigned side = 0; side < 2; side++)
+        for (unsigned only = 0; only < WEEKDAYS; only++) {
+            struct day d = flat_day(2, 3, 2, 3);
+            d.parent[side][1] = 0;
+            add_row(&d, 1, 1, 0);
+            w = every_day(&d);
+            w.on[only].limit[side][1] = 4;
+            write_week(&w, WEEK, &f);
+            for (unsigned weekday = 0; weekday <= WEEKDAYS; weekday++)
+                refused_with("above on one weekday", &sorts[NEW_WEEK], &f, weekday, &longest, CLAIMS_LIMIT_ABOVE);
+            for (unsigned weekday = 0; weekday < WEEKDAYS; weekday++) alike_in(&w, WEEK, weekday);
+        }
+    part_done("above on one weekday");
 }
 
 /* The first group with a parent, the middle one and the last one of each section: in a chain, all under one group, and in a forest. */
@@ -306,38 +449,135 @@ static void limits_above(void) {
     part_done("one limit above its parent's");
 }
 
+/* The week of a file that is accepted: each weekday read by itself. */
+static void read_week(const struct sort *by, const struct file *f, struct week *w) {
+    unsigned faults = 0;
+    memset(w, 0, sizeof *w);
+    for (unsigned k = 0; k < WEEKDAYS; k++) faults += read_day(f->bytes, f->length, form_of(by, k), &w->on[k]) != 0;
+    expect(faults == 0, "a week is not read");
+}
+
 /* A byte of a random file changed, or its end cut off or lengthened, against the plain reader for that sort. */
 static void broken_files(const struct sort *by, unsigned files) {
     static struct file f;
-    struct day read;
+    static struct week read;
+    struct day d;
     for (unsigned i = 0; i < files; i++) {
-        struct day d = day_for(by, random_day(4, 6));
-        write_day(&d, &f);
+        unsigned weekday = below(WEEKDAYS);
+        d = day_for(by, random_day(4, 6));
+        write_among(&d, form_of(by, weekday), &f);
         switch (below(4)) {
         case 0: f.length = below((unsigned)f.length); break;
         case 1: f.bytes[f.length++] = (uint8_t)below(UINT8_MAX + 1); break;
         default: f.bytes[below((unsigned)f.length)] = (uint8_t)below(4);
         }
-        unsigned number = read_day(f.bytes, f.length, by->stored, &read);
-        if (number != 0)
+        unsigned number = read_day(f.bytes, f.length, form_of(by, weekday), &d);
+        if (number != 0) {
             refused("a broken file", by, &f, number);
-        else
-            lowered_alike(&read);
+            continue;
+        }
+        read_week(by, &f, &read);
+        alike_in(&read, by->layout, weekday);
     }
     printf("%s, ", by->name);
     part_done("broken");
 }
 
+/* ---- Days over 6, the longest files, and the samples of both layouts ---- */
+
+/* A good file and good lengths: on a day over 6 every call is refused with 12, but for the canonical form, which is the same on any. */
+static void day_over(const struct sort *by, const struct file *f, unsigned rows, const char *what) {
+    static struct told over, good;
+    ask(by, f, no_weekday(), &longest, rows > 0 ? below(rows + 1) : 0, &over);
+    expect(calls_gave(&over, CLAIMS_DAY), "%s, %s: not refused with 12", by->name, what);
+    ask(by, f, WEEKDAYS - 1, &longest, 0, &good);
+    expect(good.settled.refusal == 0 && good.codes.refusal == 0 && good.canonical.refusal == 0, "%s, %s: day 6", by->name, what);
+    expect(over.canonical.refusal == 0 && over.canonical.length == good.canonical.length &&
+               memcmp(over.lent.canonical, good.lent.canonical, sizeof good.lent.canonical) == 0,
+           "%s, %s: the form", by->name, what);
+}
+
+/* A day over 6, with a selection that is good, one with a byte over 1, and with nothing lent, where 8 is told unless nothing is needed. */
+static void days_over(const struct sort *by, unsigned files) {
+    static struct file f;
+    static struct told t;
+    for (unsigned i = 0; i < files; i++) {
+        struct day d = day_for(by, random_day(20, 40));
+        write_among(&d, form_of(by, 0), &f);
+        memset(selection, 0, sizeof selection);
+        day_over(by, &f, d.rows, "a good selection");
+        if (d.rows == 0) continue;
+        selection[below(d.rows)] = 2;
+        day_over(by, &f, d.rows, "a byte over 1");
+        ask(by, &f, no_weekday(), &nothing, MOST_ROWS, &t);
+        expect(calls_gave(&t, CLAIMS_SHORT) && form_gave(&t, CLAIMS_SHORT), "%s: day over 6, nothing lent", by->name);
+    }
+    printf("%s, ", by->name);
+    part_done("days over 6");
+}
+
+/* The longest file of each layout is taken by every call, and with one byte more it is refused. */
+static void longest_files(void) {
+    static struct file f;
+    struct day d = flat_day(MOST_GROUPS, 2, MOST_GROUPS, 2);
+    for (unsigned side = 0; side < 2; side++) hang_forest(&d, side, 3, 8);
+    draw_rows(&d, MOST_ROWS, 2);
+    day_alike(&d);
+    for (const struct sort *by = sorts; by < sorts + SORTS; by++) {
+        write_among(&d, form_of(by, below(WEEKDAYS)), &f);
+        expect(f.length == (by->layout == WEEK ? CLAIMS_LONGEST_FILE : CLAIMS_LONGEST_FILE_OLD), "%s: the longest", by->name);
+        memset(selection, 0, sizeof selection);
+        day_over(by, &f, d.rows, "the longest file");
+        f.bytes[f.length++] = 0;
+        refused("one byte more than the longest", by, &f, CLAIMS_TRAILING);
+    }
+    part_done("the longest files");
+}
+
+static void read_sample(const char *folder, const char *name, struct file *f) {
+    char path[64];
+    snprintf(path, sizeof path, "samples/%s%s.claims", folder, name);
+    FILE *in = fopen(path, "rb");
+    f->length = in == NULL ? 0 : fread(f->bytes, 1, sizeof f->bytes, in);
+    expect(f->length > 0, "%s cannot be read", path);
+    if (in != NULL) fclose(in);
+}
+
+/* The samples that stand there in both layouts are the same weeks. */
+static void samples(void) {
+    static const char *const names[] = {"day_a", "full", "held", "shelf", "street"};
+    static struct file f, old;
+    static struct told t, old_told;
+    struct day d;
+    for (unsigned i = 0; i < sizeof names / sizeof *names; i++) {
+        read_sample("", names[i], &f);
+        read_sample("old/", names[i], &old);
+        expect(read_day(f.bytes, f.length, form_of(&sorts[NEW_WEEK], 0), &d) == 0, "%s is a new file", names[i]);
+        for (unsigned c = 0; c < d.rows; c++) selection[c] = below(4) == 0;
+        for (unsigned weekday = 0; weekday < WEEKDAYS; weekday++) {
+            ask(&sorts[NEW_WEEK], &f, weekday, &longest, 0, &t);
+            ask(&sorts[NEW_OLD], &old, weekday, &longest, 0, &old_told);
+            same_told(names[i], &d, &old_told, &t);
+        }
+    }
+    part_done("the samples in both layouts");
+}
+
 int main(void) {
     start_numbers(20270305);
+    day_a_as_bytes();
     faulty_files();
+    above_on_one_day();
     limits_above();
-    for (unsigned s = 0; s < SORTS; s++) broken_files(&sorts[s], 2000);
+    for (const struct sort *by = sorts; by < sorts + SORTS; by++) broken_files(by, 1000);
+    for (const struct sort *by = sorts; by < sorts + SORTS; by++) days_over(by, 100);
+    longest_files();
+    samples();
     day_b();
     earned_lowered();
-    random_days("random small days", 1000, 8, 12);
-    random_days("random days", 200, 40, 120);
-    random_days("random large days", 20, MOST_GROUPS, MOST_ROWS);
+    random_days("random small days", 300, 8, 12);
+    random_days("random days", 60, 40, 120);
+    random_days("random large days", 8, MOST_GROUPS, MOST_ROWS);
     chains();
     return all_done();
 }

@@ -1,16 +1,17 @@
 -- Laws of what the canonical file of a sound file holds.
 --   word-of word-fits word-back    the number that stands in a record for a parent may stand there, and reads back
---   word-below             where it is a smaller group, the limit is not above that group's
+--   word-below             where it is a smaller group, the limit is on no day above that group's
 --   newSide s l side       a side in the new numbers
 --   written s l            the bytes of the canonical file
 --   writtenSide s l side   a side of the canonical file, as it is read
 --   records-on             the canonical file has the groups of a side in the new numbers
---   canonical-proper       a new file may hold what the canonical file holds
---   accepted-new           so it is accepted as a new file
+--   canonical-ranged canonical-proper  a stored file may hold what the canonical file holds, and so may a new one
+--   accepted-written       so it is accepted as a new file and as a stored one, on every day
 --   written-alike          its sides are those in the new numbers
---   written-same           it holds the same day as the file read
+--   written-same           it differs from the file read only in group numbering and in groups that are dropped
 --   claim-alike            claims with the same fields are the same
---   same-written           files of the same day have the same canonical file
+--   same-written           files that differ only so have the same canonical file
+use mathlib.Core.Bool.{Bool, true, false}
 use mathlib.Core.Path.{_≡_, refl, sym, ap, ap₂, _∙_}
 use mathlib.Core.Logic.{_⊎_, inl, inr}
 use mathlib.Core.List.{List}
@@ -24,13 +25,12 @@ use Rattle.claimfile.specs.declared.Layout.{Layout}
 use Rattle.claimfile.specs.declared.Group.{Group}
 use Rattle.claimfile.specs.declared.Claim.{Claim}
 use Rattle.claimfile.specs.declared.Reading.the-variants.{Accepted}
-use Rattle.claimfile.specs.File.{newFile, top, reading}
-use Rattle.claimfile.specs.Day.{countOf, groupOf, claimOf, firstOf}
+use Rattle.claimfile.specs.File.{newWeek, top, days, reading}
+use Rattle.claimfile.specs.Day.{countOf, groupOf, onDay, claimOf, firstOf}
 use Rattle.claimfile.specs.Sound.{SmallerOrTop, Sound}
-use Rattle.claimfile.specs.Written.{recordsOn, fileBytes, Proper}
-use Rattle.claimfile.proofs.AcceptedLaws.{accepted-sound}
+use Rattle.claimfile.specs.Written.{onDayOf, recordsOn, fileBytes, Ranged, Proper, SameGroup}
 use Rattle.claimfile.proofs.DayLaws.{side-most, side-room, limit-small}
-use Rattle.claimfile.proofs.WrittenLaws.{written-accepted, written-group, written-claim, same-contents}
+use Rattle.claimfile.proofs.WrittenLaws.{written-accepted, written-sound, written-group, written-claim, same-contents}
 use Rattle.limits.specs.Side.{parentBy}
 use Rattle.limits.proofs.ChainLaws.{parent-lower, parent-root}
 use Rattle.canonical.specs.Side.{Side, group, canonicalSide}
@@ -72,10 +72,10 @@ module _ {d : Side} (sound : SoundSide d) (g : ℕ) (inside : g < d .groups) whe
       read e = ap (λ (x : ℕ). parentBy (d .groups) x g) e
 
   word-below :
-      d .groups ≤ maxGroups → Lowered d → parentWord d g < g → d .limit g ≤ d .limit (parentWord d g)
-  word-below most low small =
+      d .groups ≤ maxGroups → Lowered d → parentWord d g < g → (k : ℕ) → d .limit k g ≤ d .limit k (parentWord d g)
+  word-below most low small k =
       elim word-of [
-        | inl q ↦ omega (arith, low g inside (omega (arith, q .0)), ap (d .limit) (q .1))
+        | inl q ↦ omega (arith, low k g inside (omega (arith, q .0)), ap (d .limit k) (q .1))
         | inr q ↦ absurd (omega (arith, q .1))
       ]
 
@@ -108,40 +108,49 @@ module _ {s : List ℕ} {l : Layout} (sound : Sound s l) where
   new-most side = omega (arith, few-groups (sideOf s l side), side-most s l sound side)
 
   module _ (bytes : Bytes s) where
-    limit-most : (side i : ℕ) → i < newSide s l side .groups → newSide s l side .limit i ≤ maxLimit
-    limit-most side i h =
+    limit-most : (k side i : ℕ) → i < newSide s l side .groups → newSide s l side .limit k i ≤ maxLimit
+    limit-most k side i h =
         let g = group (sideOf s l side) i in
         let inside = used-inside (side-sound sound side) g (group-used (side-sound sound side) i h) in
-        omega (arith, limit-small s l bytes (firstOf l side + g) (omega (arith, side-room l side)))
+        omega (arith, limit-small s (onDay l k) bytes (firstOf l side + g) (omega (arith, side-room l side)))
 
-    pub canonical-proper : Proper (canonicalContents s l)
-    canonical-proper =
+    canonical-ranged : Ranged (canonicalContents s l)
+    canonical-ranged =
         record {
           sides = λ n g. refl;
           cards-most = new-most 0;
           shops-most = new-most 1;
           rows-most = sound .rows-most;
           parents = λ side g h. word-fits (new-sound side) g (omega (arith, records-on s l side));
-          limits = λ side g h. limit-most side g (omega (arith, records-on s l side));
-          below = λ side g h small.
-              word-below (new-sound side) g (omega (arith, records-on s l side)) (new-most side)
-              (canonical-side-lowered (side-sound sound side) (side-lowered s l side)) small;
+          limits = λ k side g day h. limit-most k side g (omega (arith, records-on s l side));
           claim-cards = new-sound 0 .named;
           claim-shops = new-sound 1 .named;
           claim-kinds = sound .row-kinds;
         }
 
-    accepted-new : reading newFile (written s l) ≡ Accepted (canonicalLayout s l)
-    accepted-new = written-accepted (canonicalContents s l) canonical-proper newFile
+    canonical-proper : Proper (canonicalContents s l)
+    canonical-proper =
+        record {
+          ranged = canonical-ranged;
+          below = λ k side g day h small.
+              word-below (new-sound side) g (omega (arith, records-on s l side)) (new-most side)
+              (canonical-side-lowered (side-sound sound side) (side-lowered s l side)) small k;
+        }
 
-    written-sound : Sound (written s l) (canonicalLayout s l)
-    written-sound = accepted-sound newFile (written s l) (canonicalLayout s l) accepted-new
+    pub accepted-written :
+        (stored : Bool) (day : ℕ) →
+        reading (record { week = true; stored = stored; day = day }) (fileBytes (canonicalContents s l))
+        ≡ Accepted (onDay (canonicalLayout s l) day)
+    accepted-written stored day = written-accepted (canonicalContents s l) canonical-ranged stored day (λ e. canonical-proper)
+
+    sound-written : Sound (written s l) (canonicalLayout s l)
+    sound-written = written-sound (canonicalContents s l) canonical-ranged 0
 
     group-back :
-        (side g : ℕ) → g < newSide s l side .groups →
-        groupOf (written s l) (canonicalLayout s l) side g ≡ recordOf (newSide s l side) g
-    group-back side g h =
-        written-group (canonicalContents s l) (canonical-proper .sides) side g (omega (arith, records-on s l side))
+        (k side g : ℕ) → k < days → g < newSide s l side .groups →
+        groupOf (written s l) (onDay (canonicalLayout s l) k) side g ≡ onDayOf (recordOf (newSide s l side) g) k
+    group-back k side g day h =
+        written-group (canonicalContents s l) (canonical-ranged .sides) k side g day (omega (arith, records-on s l side))
 
     claim-back : (c : ℕ) → c < l .rows → claimOf (written s l) (canonicalLayout s l) c ≡ canonicalContents s l .claim c
     claim-back = written-claim (canonicalContents s l)
@@ -158,11 +167,12 @@ module _ {s : List ℕ} {l : Layout} (sound : Sound s l) where
           parent = λ g h.
               sym (word-back (new-sound side) g h (new-most side))
               ∙ ap₂ (λ (n u : ℕ). parentBy n u g) (sym (count-on s l side))
-              (sym (ap (λ (x : Group). x .parent) (group-back side g h)));
-          limit = λ g h.
+              (sym (ap (λ (x : Group). x .parent) (group-back 0 side g (omega arith) h)));
+          limit = λ k g day h.
               sym
-              (new-side-limit (written s l) (canonicalLayout s l) accepted-new side g (omega (arith, count-on s l side))
-              ∙ ap (λ (x : Group). x .limit) (group-back side g h));
+              (new-side-limit (written s l) (canonicalLayout s l) (newWeek 0) refl (accepted-written false 0) k side g
+              (omega (arith, count-on s l side))
+              ∙ ap (λ (x : Group). x .limit) (group-back k side g day h));
           names = named-back side;
         }
 
@@ -170,16 +180,18 @@ module _ {s : List ℕ} {l : Layout} (sound : Sound s l) where
     written-same =
         record {
           sides = λ side.
-              renumbered-trans (side-sound sound side) (new-sound side) (side-sound written-sound side)
+              renumbered-trans (side-sound sound side) (new-sound side) (side-sound sound-written side)
               (canonical-side-renumbered (side-sound sound side))
-              (alike-renumbered (new-sound side) (side-sound written-sound side) (written-alike side));
+              (alike-renumbered (new-sound side) (side-sound sound-written side) (written-alike side));
           kinds = λ c h. sym (ap (λ (x : Claim). x .kind) (claim-back c h));
         }
 
-record-alike : {c d : Side} → AlikeSides c d → (g : ℕ) → g < c .groups → recordOf c g ≡ recordOf d g
+record-alike : {c d : Side} → AlikeSides c d → (g : ℕ) → g < c .groups → SameGroup (recordOf c g) (recordOf d g)
 record-alike a g h =
-    ap₂ {C = Group} (λ (p n : ℕ). record { parent = p; limit = n })
-    (ap₂ (λ (p n : ℕ). pick (ltb p n) p top) (a .parent g h) (a .groups)) (a .limit g h)
+    record {
+      parent = ap₂ (λ (p n : ℕ). pick (ltb p n) p top) (a .parent g h) (a .groups);
+      limits = λ k day. a .limit k g day h;
+    }
 
 pub claim-alike :
     {a b x y k m : ℕ} → a ≡ x → b ≡ y → k ≡ m →

@@ -2,10 +2,10 @@
 use mathlib.Core.Path.{_≡_, refl}
 use mathlib.Core.List.{map}
 use native.Mathlib.Decide.{ℕ-discrete, decLt}
-use Rattle.theory.specs.Sum.{sum, is, same}
+use Rattle.theory.specs.Sum.{every, sum, is, same}
 use Rattle.theory.specs.Forest.{steps, walk, chain}
 use Rattle.theory.specs.Lowered.{lowered}
-use Rattle.claimfile.specs.File.{groupFault, claimFault, recordsFrom, countFault, sectionAt, claimsAt, reading}
+use Rattle.claimfile.specs.File.{noneAbove, groupFault, claimFault, recordsFrom, countFault, sectionAt, claimsAt, reading}
 use Rattle.claimfile.specs.Day.{parentOf, writtenOf, limitOf}
 use Rattle.claimfile.specs.Written.{records, section, fileBytes}
 use Rattle.canonical.specs.Side.{first, lowest, used, before, number, group}
@@ -16,5 +16,5 @@ pub examples-hold : map (λ (e : Example). canonical (e .given) (e .file)) examp
 unfolding
     canonical fileBytes section records group number before used lowest first sum is same
     limitOf writtenOf parentOf lowered steps walk chain
-    reading sectionAt claimsAt countFault recordsFrom groupFault claimFault ℕ-discrete decLt
+    reading sectionAt claimsAt countFault recordsFrom groupFault noneAbove every claimFault ℕ-discrete decLt
 examples-hold = refl

@@ -5,9 +5,11 @@
 --   taken section-read section-fine    a section that was read
 --   sectionIn accepted-sections    the group sections of an accepted file are those of its layout
 --   accepted-sound             an accepted file is sound
+--   accepted-week accepted-day its layout is the form's, and so is the day
 --   accepted-stored            it is accepted as a stored file too
---   new-below                  in a new file no group's limit is above its parent's
---   longest                    it has at most 4,614 bytes
+--   accepted-on                and for every day
+--   new-below                  in a new file no group's limit is above its parent's, on any day
+--   longest                    it has at most 10,758 bytes
 use mathlib.Core.Path.{_≡_, refl, sym, ap, _∙_, subst}
 use mathlib.Core.Bool.{false}
 use mathlib.Core.Logic.{inl, inr}
@@ -20,11 +22,11 @@ use native.Mathlib.Omega.{arith}
 use lib.ListN.{length, drop, length-drop}
 use borrow.Author.Tests.{lt-ltb, lt-leb, le-leb}
 use Rattle.theory.specs.Bounds.{maxGroups, maxRows}
-use Rattle.claimfile.specs.File.{newFile, storedFile, top, groupWidth, claimWidth, word, groupAt, claimAt}
-use Rattle.claimfile.specs.File.{groupFault, claimFault, recordsFrom}
+use Rattle.claimfile.specs.File.{asStored, forDay, top, columns, columnOf, groupWidth, claimWidth, word, limitAt, recordAt, claimAt}
+use Rattle.claimfile.specs.File.{noneAbove, groupFault, claimFault, recordsFrom}
 use Rattle.claimfile.specs.File.{groupsFrom, rowsFrom, countFault, sectionOf, sectionBy, sectionAt, claimsAt, reading}
 use Rattle.claimfile.specs.Sections.{behind, sectionOn}
-use Rattle.claimfile.specs.Day.{startOf, countOf, groupOf}
+use Rattle.claimfile.specs.Day.{startOf, countOf, onDay}
 use Rattle.claimfile.specs.Sound.{SmallerOrTop, Sound, NoneAbove}
 use Rattle.claimfile.specs.declared.Form.{Form}
 use Rattle.claimfile.specs.declared.Refusal.{Refusal}
@@ -36,9 +38,10 @@ use Rattle.claimfile.specs.declared.Section.the-variants.{Read, Faulty}
 use Rattle.claimfile.specs.declared.Reading.{Reading}
 use Rattle.claimfile.specs.declared.Reading.the-variants.{Accepted, Refused}
 use Rattle.claimfile.specs.declared.Layout.{Layout}
-use Rattle.claimfile.specs.declared.Group.{Group}
 use Rattle.claimfile.specs.declared.Claim.{Claim}
-use Rattle.claimfile.proofs.FileLaws.{never, group-bad, group-top, group-stored, group-above}
+use Rattle.theory.proofs.TestLaws.{either}
+use Rattle.claimfile.proofs.WidthLaws.{width-most, width-split, column-small}
+use Rattle.claimfile.proofs.FileLaws.{never, none-above, group-bad, group-top, group-stored, group-above}
 use Rattle.claimfile.proofs.FileLaws.{record-cut, record-fault, next-record, records-pass}
 use Rattle.claimfile.proofs.FileLaws.{count-fine, section-fault, section-fits}
 use Rattle.claimfile.proofs.FileLaws.{cards-fault, shops-fault, claims-fault, trailing, accepted}
@@ -96,42 +99,50 @@ all-whole size start width zero first each = simp mul-zero (omega arith)
 all-whole size start width (suc n) first each = rw mul-suc (omega (arith, each n (omega arith)))
 
 -- the fields of a group without a fault
-pub record FineGroup (f : Form) (group : ℕ → Group) (own : ℕ) : Type 0 where
-  parent : SmallerOrTop own (group own .parent)
-  limit : f .stored ≡ false → group own .parent < own → group own .limit ≤ group (group own .parent) .limit
+pub record FineGroup (f : Form) (s : List ℕ) (start own : ℕ) : Type 0 where
+  parent : SmallerOrTop own (word s (recordAt (f .week) start own))
+  limits :
+      f .stored ≡ false → word s (recordAt (f .week) start own) < own → (k : ℕ) → k < columns (f .week) →
+      limitAt s (recordAt (f .week) start own) k ≤ limitAt s (recordAt (f .week) start (word s (recordAt (f .week) start own))) k
 
-group-fine : (f : Form) (group : ℕ → Group) (own : ℕ) → groupFault f group own ≡ Fine → FineGroup f group own
-group-fine f group own e = record { parent = parent; limit = limit }
-  where
-    parent : SmallerOrTop own (group own .parent)
-    parent =
-        elim (decLt (group own .parent) own) [
-          | yes small ↦ inl small
-          | no large ↦
-              elim (ℕ-discrete (group own .parent) top) [
-                | yes is ↦ inr is
-                | no other ↦ never _ _ e (group-bad f group own (omega arith) other)
-              ]
-        ]
+module _ (f : Form) (s : List ℕ) (start own : ℕ) where
+  abbrev above : ℕ
+  above = word s (recordAt (f .week) start own)
 
-    limit : f .stored ≡ false → group own .parent < own → group own .limit ≤ group (group own .parent) .limit
-    limit new small =
-        elim (decLt (group (group own .parent) .limit) (group own .limit)) [
-          | yes more ↦ never _ _ e (group-above f group own small new more)
-          | no less ↦ omega arith
-        ]
-
--- they have none in a stored file either
-fine-stored : (f : Form) (group : ℕ → Group) (own : ℕ) → FineGroup f group own → groupFault storedFile group own ≡ Fine
-fine-stored f group own fine =
-    elim (decLt (group own .parent) own) [
-      | yes small ↦ group-stored storedFile group own small refl
-      | no h ↦
-          elim (fine .parent) [
-            | inl small ↦ absurd (h small)
-            | inr is ↦ group-top storedFile group own (omega arith) is
+  group-fine : groupFault f s start own ≡ Fine → FineGroup f s start own
+  group-fine e = record { parent = parent; limits = limits }
+    where
+      parent : SmallerOrTop own above
+      parent =
+          elim (decLt above own) [
+            | yes small ↦ inl small
+            | no large ↦
+                elim (ℕ-discrete above top) [
+                  | yes is ↦ inr is
+                  | no other ↦ never _ _ e (group-bad f s start own (omega arith) other)
+                ]
           ]
-    ]
+
+      limits :
+          f .stored ≡ false → above < own → (k : ℕ) → k < columns (f .week) →
+          limitAt s (recordAt (f .week) start own) k ≤ limitAt s (recordAt (f .week) start above) k
+      limits new small =
+          elim (either (noneAbove s (recordAt (f .week) start own) (recordAt (f .week) start above) (columns (f .week)))) [
+            | inl less ↦ none-above s _ _ (columns (f .week)) less
+            | inr more ↦ never _ _ e (group-above f s start own small new more)
+          ]
+
+  -- they have none in a stored file either
+  fine-stored : FineGroup f s start own → groupFault (asStored f) s start own ≡ Fine
+  fine-stored fine =
+      elim (decLt above own) [
+        | yes small ↦ group-stored (asStored f) s start own small refl
+        | no h ↦
+            elim (fine .parent) [
+              | inl small ↦ absurd (h small)
+              | inr is ↦ group-top (asStored f) s start own (omega arith) is
+            ]
+      ]
 
 -- the fields of a claim without a fault
 record FineClaim (claim : Claim) (cards shops : ℕ) : Type 0 where
@@ -223,43 +234,46 @@ module _ (s : List ℕ) (at most : ℕ) (over : Refusal) (width : ℕ) (checked 
       judged Fine f = told checked refl (sym e ∙ section-fits s at most over width checked f)
 
 abbrev pub GroupFits : Form → List ℕ → ℕ → ℕ → Type 0
-GroupFits f s start = FineGroup f (groupAt s start)
+GroupFits f s start = FineGroup f s start
 
 abbrev RowFits : List ℕ → ℕ → ℕ → ℕ → ℕ → Type 0
 RowFits s cards shops start c = FineClaim (claimAt (drop start s) c) cards shops
 
 module _ (s : List ℕ) (at count start next : ℕ) where
-  pub section-read :
-      (f : Form) → sectionAt f s at ≡ Read count start next →
-      Taken s at maxGroups groupWidth (GroupFits f s) count start next
-  unfolding sectionAt
-  section-read f =
-      taken s at maxGroups GroupCount groupWidth (groupsFrom f s (at + 2) 0 (word s at)) count start next (GroupFits f s)
-      (λ fine g l.
-      let r = records-fine (length s) (at + 2) groupWidth (groupFault f (groupAt s (at + 2))) (word s at) fine g l in
-      (r .whole, group-fine f (groupAt s (at + 2)) g (r .fine)))
+  module _ (f : Form) (e : sectionAt f s at ≡ Read count start next) where
+    abbrev wide : ℕ
+    wide = groupWidth (f .week)
 
-  -- none of its records has a fault
-  pub section-fine :
-      (f : Form) → sectionAt f s at ≡ Read count start next → (g : ℕ) → g < word s at →
-      FineRecord (length s) (at + 2) groupWidth (groupFault f (groupAt s (at + 2))) g
-  unfolding sectionAt
-  section-fine f e =
-      records-fine (length s) (at + 2) groupWidth (groupFault f (groupAt s (at + 2))) (word s at)
-      (read-fine s at maxGroups GroupCount groupWidth (groupsFrom f s (at + 2) 0 (word s at)) count start next e)
+    abbrev checked : Checked
+    checked = groupsFrom f s (at + 2) 0 (word s at)
 
-  -- it is read as a section of a stored file too
-  section-stored :
-      (f : Form) → sectionAt f s at ≡ Read count start next → sectionAt storedFile s at ≡ Read count start next
-  unfolding sectionAt
-  section-stored f e =
-      let group = groupAt s (at + 2) in
-      let fine = read-fine s at maxGroups GroupCount groupWidth (groupsFrom f s (at + 2) 0 (word s at)) count start next e in
-      let each = section-fine f e in
-      let stored : groupsFrom storedFile s (at + 2) 0 (word s at) ≡ Fine =
-      records-pass (length s) (at + 2) groupWidth (groupFault storedFile group) (word s at) (λ g l. each g l .whole)
-      (λ g l. fine-stored f group g (group-fine f group g (each g l .fine))) (word s at) 0 (omega arith) in
-      ap (sectionBy s at maxGroups GroupCount groupWidth) (stored ∙ sym fine) ∙ e
+    pub section-read : Taken s at maxGroups (groupWidth (f .week)) (GroupFits f s) count start next
+    unfolding sectionAt
+    section-read =
+        taken s at maxGroups GroupCount wide checked count start next (GroupFits f s)
+        (λ fine g l.
+        let r = records-fine (length s) (at + 2) wide (groupFault f s (at + 2)) (word s at) fine g l in
+        (r .whole, group-fine f s (at + 2) g (r .fine)))
+        e
+
+    -- none of its records has a fault
+    pub section-fine :
+        (g : ℕ) → g < word s at → FineRecord (length s) (at + 2) (groupWidth (f .week)) (groupFault f s (at + 2)) g
+    unfolding sectionAt
+    section-fine =
+        records-fine (length s) (at + 2) wide (groupFault f s (at + 2)) (word s at)
+        (read-fine s at maxGroups GroupCount wide checked count start next e)
+
+    -- it is read as a section of a stored file too
+    section-stored : sectionAt (asStored f) s at ≡ Read count start next
+    unfolding sectionAt
+    section-stored =
+        let fine = read-fine s at maxGroups GroupCount wide checked count start next e in
+        let each = section-fine in
+        let stored : groupsFrom (asStored f) s (at + 2) 0 (word s at) ≡ Fine =
+        records-pass (length s) (at + 2) wide (groupFault (asStored f) s (at + 2)) (word s at) (λ g l. each g l .whole)
+        (λ g l. fine-stored f s (at + 2) g (group-fine f s (at + 2) g (each g l .fine))) (word s at) 0 (omega arith) in
+        ap (sectionBy s at maxGroups GroupCount wide) (stored ∙ sym fine) ∙ e
 
   claims-read :
       (cards shops : ℕ) → claimsAt s at cards shops ≡ Read count start next →
@@ -280,53 +294,85 @@ module _ (s : List ℕ) (at count start next : ℕ) where
 
 -- the section of a side, by the layout
 abbrev pub sectionIn : Layout → ℕ → Section
-sectionIn l side = Read (countOf l side) (startOf l side) (startOf l side + groupWidth * countOf l side)
+sectionIn l side = Read (countOf l side) (startOf l side) (startOf l side + groupWidth (l .week) * countOf l side)
+
+-- the day that a form names is no matter to its sections
+section-day : (f : Form) (s : List ℕ) (at d : ℕ) → sectionAt (forDay f d) s at ≡ sectionAt f s at
+unfolding sectionAt groupFault
+section-day f s at d = refl
 
 -- what holds of a file that is accepted in a form
 record Accords (f : Form) (s : List ℕ) (l : Layout) : Type 0 where
+  week : l .week ≡ f .week
+  day : l .day ≡ f .day
   sections : (side : ℕ) → side < 2 → sectionOn f s side ≡ sectionIn l side
   sound : Sound s l
-  stored : reading storedFile s ≡ Accepted l
+  stored : reading (asStored f) s ≡ Accepted l
+  on : (d : ℕ) → reading (forDay f d) s ≡ Accepted (onDay l d)
   below : f .stored ≡ false → NoneAbove s l
 
 -- three sections that were read, one behind the other, up to the end of the file
-module _ (f : Form) (s : List ℕ) (l : Layout) (next after end : ℕ) where
-  accords :
-      sectionAt f s 0 ≡ Read (l .cards) (l .«card_at») next → sectionAt f s next ≡ Read (l .shops) (l .«shop_at») after →
-      Taken s after maxRows claimWidth (RowFits s (l .cards) (l .shops)) (l .rows) (l .«row_at») end →
-      length s ≤ end → reading storedFile s ≡ Accepted l → Accords f s l
-  accords cards-are shops-are rows h stored =
-      record { sections = sections; sound = sound; stored = stored; below = λ new side g m. groups side g m .limit new }
-    where
-      cards : Taken s 0 maxGroups groupWidth (GroupFits f s) (l .cards) (l .«card_at») next
-      cards = section-read s 0 (l .cards) (l .«card_at») next f cards-are
+module _ (f : Form) (s : List ℕ) (cards cardAt next shops shopAt after rows rowAt end : ℕ) where
+  abbrev l : Layout
+  l = record {
+    week = f .week;
+    day = f .day;
+    cards = cards;
+    shops = shops;
+    rows = rows;
+    «card_at» = cardAt;
+    «shop_at» = shopAt;
+    «row_at» = rowAt;
+  }
 
-      shops : Taken s next maxGroups groupWidth (GroupFits f s) (l .shops) (l .«shop_at») after
-      shops = section-read s next (l .shops) (l .«shop_at») after f shops-are
+  accords :
+      sectionAt f s 0 ≡ Read cards cardAt next → sectionAt f s next ≡ Read shops shopAt after →
+      Taken s after maxRows claimWidth (RowFits s cards shops) rows rowAt end → length s ≤ end →
+      reading (asStored f) s ≡ Accepted l → ((d : ℕ) → reading (forDay f d) s ≡ Accepted (onDay l d)) → Accords f s l
+  accords cards-are shops-are taken h stored on =
+      record {
+        week = refl;
+        day = refl;
+        sections = sections;
+        sound = sound;
+        stored = stored;
+        on = on;
+        below = below;
+      }
+    where
+      of-cards : Taken s 0 maxGroups (groupWidth (f .week)) (GroupFits f s) cards cardAt next
+      of-cards = section-read s 0 cards cardAt next f cards-are
+
+      of-shops : Taken s next maxGroups (groupWidth (f .week)) (GroupFits f s) shops shopAt after
+      of-shops = section-read s next shops shopAt after f shops-are
 
       sections : (side : ℕ) → side < 2 → sectionOn f s side ≡ sectionIn l side
-      sections zero few = cards-are ∙ ap (Read (l .cards) (l .«card_at»)) (omega (arith, cards))
+      sections zero few = cards-are ∙ ap (Read cards cardAt) (omega (arith, of-cards))
       sections (suc zero) few =
-          ap (λ x. sectionAt f s (behind x)) cards-are ∙ shops-are ∙ ap (Read (l .shops) (l .«shop_at»)) (omega (arith, shops))
+          ap (λ x. sectionAt f s (behind x)) cards-are ∙ shops-are ∙ ap (Read shops shopAt) (omega (arith, of-shops))
       sections (suc (suc n)) few = absurd (omega arith)
 
-      groups : (side g : ℕ) → g < countOf l side → FineGroup f (groupOf s l side) g
-      groups zero = cards .each
-      groups (suc n) = shops .each
+      groups : (side g : ℕ) → g < countOf l side → FineGroup f s (startOf l side) g
+      groups zero = of-cards .each
+      groups (suc n) = of-shops .each
+
+      below : f .stored ≡ false → NoneAbove s l
+      below new d zero g m small = of-cards .each g m .limits new small (columnOf (f .week) d) (column-small (f .week) d)
+      below new d (suc n) g m small = of-shops .each g m .limits new small (columnOf (f .week) d) (column-small (f .week) d)
 
       sound : Sound s l
       sound = record {
-        card-place = omega (arith, cards);
-        shop-place = omega (arith, cards, shops);
-        row-place = omega (arith, cards, shops);
-        size = omega (arith, cards, shops);
-        cards-most = cards .small;
-        shops-most = shops .small;
-        rows-most = rows .small;
+        card-place = omega (arith, of-cards);
+        shop-place = omega (arith, of-cards, of-shops);
+        row-place = omega (arith, of-cards, of-shops, taken, width-split (f .week) cards shops);
+        size = omega (arith, of-cards, of-shops, taken, width-split (f .week) cards shops);
+        cards-most = of-cards .small;
+        shops-most = of-shops .small;
+        rows-most = taken .small;
         parents = λ side g m. groups side g m .parent;
-        row-cards = λ c m. rows .each c m .card;
-        row-shops = λ c m. rows .each c m .shop;
-        row-kinds = λ c m. rows .each c m .kind;
+        row-cards = λ c m. taken .each c m .card;
+        row-shops = λ c m. taken .each c m .shop;
+        row-kinds = λ c m. taken .each c m .kind;
       }
 
 module _ (f : Form) (s : List ℕ) (l : Layout) (is : reading f s ≡ Accepted l) where
@@ -347,9 +393,13 @@ module _ (f : Form) (s : List ℕ) (l : Layout) (is : reading f s ≡ Accepted l
             subst (Accords f s)
             (one-layout _ _ _
             (accepted f s cards cardAt next cards-are shops shopAt after shops-are rows rowAt end e whole) is)
-            (accords f s _ next after end cards-are shops-are (claims-read s after rows rowAt end cards shops e) whole
-            (accepted storedFile s cards cardAt next (section-stored s 0 cards cardAt next f cards-are) shops shopAt after
-            (section-stored s next shops shopAt after f shops-are) rows rowAt end e whole))
+            (accords f s cards cardAt next shops shopAt after rows rowAt end cards-are shops-are
+            (claims-read s after rows rowAt end cards shops e) whole
+            (accepted (asStored f) s cards cardAt next (section-stored s 0 cards cardAt next f cards-are) shops shopAt after
+            (section-stored s next shops shopAt after f shops-are) rows rowAt end e whole)
+            (λ d.
+            accepted (forDay f d) s cards cardAt next (section-day f s 0 d ∙ cards-are) shops shopAt after
+            (section-day f s next d ∙ shops-are) rows rowAt end e whole))
       ]
 
   through-shops :
@@ -364,21 +414,30 @@ module _ (f : Form) (s : List ℕ) (l : Layout) (is : reading f s ≡ Accepted l
   through-cards (Faulty why) e = refused why (cards-fault f s why e)
   through-cards (Read cards cardAt next) e = through-shops cards cardAt next e (sectionAt f s next) refl
 
+  all : Accords f s l
+  all = through-cards (sectionAt f s 0) refl
+
+  pub accepted-week : l .week ≡ f .week
+  accepted-week = all .week
+
+  pub accepted-day : l .day ≡ f .day
+  accepted-day = all .day
+
   pub accepted-sections : (side : ℕ) → side < 2 → sectionOn f s side ≡ sectionIn l side
-  accepted-sections = through-cards (sectionAt f s 0) refl .sections
+  accepted-sections = all .sections
 
   pub accepted-sound : Sound s l
-  accepted-sound = through-cards (sectionAt f s 0) refl .sound
+  accepted-sound = all .sound
 
-  pub accepted-stored : reading storedFile s ≡ Accepted l
-  accepted-stored = through-cards (sectionAt f s 0) refl .stored
+  pub accepted-stored : reading (asStored f) s ≡ Accepted l
+  accepted-stored = all .stored
 
-  accepted-below : f .stored ≡ false → NoneAbove s l
-  accepted-below = through-cards (sectionAt f s 0) refl .below
+  pub accepted-on : (d : ℕ) → reading (forDay f d) s ≡ Accepted (onDay l d)
+  accepted-on = all .on
 
-pub new-below : (s : List ℕ) (l : Layout) → reading newFile s ≡ Accepted l → NoneAbove s l
-new-below s l is = accepted-below newFile s l is refl
+  pub new-below : f .stored ≡ false → NoneAbove s l
+  new-below = all .below
 
--- "The longest file has 4,614 bytes."
-pub longest : (s : List ℕ) (l : Layout) → Sound s l → length s ≤ 4614
-longest s l sound = omega arith
+-- "The longest file has 10,758 bytes."
+pub longest : (s : List ℕ) (l : Layout) → Sound s l → length s ≤ 10758
+longest s l sound = omega (arith, sound, width-most (l .week) (l .cards + l .shops))

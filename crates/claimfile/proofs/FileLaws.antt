@@ -1,14 +1,15 @@
 -- Laws of the claim file: how the first fault of what is left follows from the next record, one law a case.
 --   tail-is                                      the list behind `&s[a..]`
 --   never                                        a check does not find both no fault and one
---   group-bad group-top group-stored group-above group-new group-far group-near group-below   the fault of a group
+--   none-above above-none one-above              whether no limit of a record is above its parent's
+--   group-bad group-top group-stored group-above group-new group-below     the fault of a group
 --   no-record record-cut record-fault next-record    the records that are left
 --   records-pass                                 records that lie within the bytes and have no fault
 --   count-cut count-large count-fits count-fine  the fault of a count
 --   section-fault section-fits                   a section by the fault of its count
 --   cards-fault shops-fault claims-fault trailing accepted   the file
-use mathlib.Core.Path.{_≡_, refl, sym, ap, _∙_}
-use mathlib.Core.Bool.{true, false}
+use mathlib.Core.Path.{_≡_, refl, sym, ap}
+use mathlib.Core.Bool.{Bool, true, false}
 use mathlib.Core.Logic.{inl, inr}
 use mathlib.Core.List.{List}
 use Prim.Native.Nat.{ℕ, zero, suc, _+_, _*_, _-_, _<_, _≤_}
@@ -17,14 +18,12 @@ use native.Mathlib.Omega.{arith}
 use native.Mathlib.Numerals.{add-one}
 use lib.ListN.{length, take, drop, length-drop}
 use lib.Seq.{take-all}
-use borrow.Author.Tests.{lt-ltb, le-ltb, eq-eqb, ne-eqb}
-use Rattle.claimfile.specs.File.{top, word, groupFault, recordsFrom}
+use lib.Dec.{leb}
+use borrow.Author.Tests.{lt-ltb, le-ltb, eq-eqb, ne-eqb, leb-true, le-leb}
+use Rattle.claimfile.specs.File.{top, columns, word, limitAt, recordAt, noneAbove, groupFault, recordsFrom}
 use Rattle.claimfile.specs.File.{countFault, sectionOf, sectionBy, sectionAt, claimsAt, reading}
-use Rattle.theory.specs.Bounds.{maxLimit}
-use Rattle.theory.specs.Sum.{pick}
-use Rattle.theory.proofs.TestLaws.{either}
+use Rattle.theory.proofs.TestLaws.{either, every-true, true-every}
 use Rattle.claimfile.specs.declared.Form.{Form}
-use Rattle.claimfile.specs.declared.Group.{Group}
 use Rattle.claimfile.specs.declared.Refusal.{Refusal}
 use Rattle.claimfile.specs.declared.Refusal.the-variants.{CutOff, Parent, Trailing, LimitAbove}
 use Rattle.claimfile.specs.declared.Checked.{Checked}
@@ -41,51 +40,60 @@ never x why p q =
     let z : _≡_ {A = ℕ} 0 1 = cc in
     absurd (omega arith)
 
+-- no limit of a record is above its parent's: the test and what it stands for
+module _ (s : List ℕ) (own parent n : ℕ) where
+  abbrev fits : ℕ → Bool
+  fits k = leb (limitAt s own k) (limitAt s parent k)
+
+  pub none-above : noneAbove s own parent n ≡ true → (k : ℕ) → k < n → limitAt s own k ≤ limitAt s parent k
+  unfolding noneAbove
+  none-above e k h = leb-true _ _ (every-true n fits e k h)
+
+  pub above-none : ((k : ℕ) → k < n → limitAt s own k ≤ limitAt s parent k) → noneAbove s own parent n ≡ true
+  unfolding noneAbove
+  above-none each = true-every n fits (λ k h. le-leb _ _ (each k h))
+
+  pub one-above : (k : ℕ) → k < n → limitAt s parent k < limitAt s own k → noneAbove s own parent n ≡ false
+  one-above k h more =
+      elim (either (noneAbove s own parent n)) [
+        | inl e ↦ absurd (omega (arith, none-above e k h))
+        | inr e ↦ e
+      ]
+
 -- a smaller parent fits, and so does 65535; a limit above that of a smaller parent is at fault in a new file
-module _ (f : Form) (group : ℕ → Group) (own : ℕ) where
-  module _ (h : own ≤ group own .parent) where
-    pub group-bad : (group own .parent ≡ top → ⊥) → groupFault f group own ≡ Fault Parent
+module _ (f : Form) (s : List ℕ) (start own : ℕ) where
+  abbrev place : ℕ → ℕ
+  place = recordAt (f .week) start
+
+  abbrev parent : ℕ
+  parent = word s (place own)
+
+  abbrev none : Bool
+  none = noneAbove s (place own) (place parent) (columns (f .week))
+
+  module _ (h : own ≤ parent) where
+    pub group-bad : (parent ≡ top → ⊥) → groupFault f s start own ≡ Fault Parent
     unfolding groupFault
     group-bad other = rw (le-ltb _ _ h, ne-eqb _ _ other)
 
-    pub group-top : group own .parent ≡ top → groupFault f group own ≡ Fine
+    pub group-top : parent ≡ top → groupFault f s start own ≡ Fine
     unfolding groupFault
     group-top e = rw (le-ltb _ _ h, eq-eqb _ _ e)
 
-  module _ (h : group own .parent < own) where
-    pub group-stored : f .stored ≡ true → groupFault f group own ≡ Fine
+  module _ (h : parent < own) where
+    pub group-stored : f .stored ≡ true → groupFault f s start own ≡ Fine
     unfolding groupFault
     group-stored e = rw (lt-ltb _ _ h, e)
 
-    pub group-above :
-        f .stored ≡ false → group (group own .parent) .limit < group own .limit → groupFault f group own ≡ Fault LimitAbove
+    pub group-above : f .stored ≡ false → none ≡ false → groupFault f s start own ≡ Fault LimitAbove
     unfolding groupFault
-    group-above e more = rw (lt-ltb _ _ h, e, lt-ltb _ _ more)
+    group-above e more = rw (lt-ltb _ _ h, e, more)
 
-    pub group-new :
-        f .stored ≡ false → group own .limit ≤ group (group own .parent) .limit → groupFault f group own ≡ Fine
+    pub group-new : f .stored ≡ false → none ≡ true → groupFault f s start own ≡ Fine
     unfolding groupFault
-    group-new e less = rw (lt-ltb _ _ h, e, le-ltb _ _ less)
+    group-new e less = rw (lt-ltb _ _ h, e, less)
 
-    -- x is how far a limit may be above its parent's: a stored one has 16 bits, and is not farther above it
-    module _ (x : ℕ) (is : x ≡ pick (f .stored) maxLimit 0) where
-      pub group-far :
-          group own .limit ≤ maxLimit → group (group own .parent) .limit + x < group own .limit →
-          groupFault f group own ≡ Fault LimitAbove
-      group-far small more =
-          elim (either (f .stored)) [
-            | inl e ↦ absurd (omega (arith, is ∙ ap (λ b. pick b maxLimit 0) e))
-            | inr e ↦ group-above e (omega (arith, is ∙ ap (λ b. pick b maxLimit 0) e))
-          ]
-
-      pub group-near : group own .limit ≤ group (group own .parent) .limit + x → groupFault f group own ≡ Fine
-      group-near less =
-          elim (either (f .stored)) [
-            | inl e ↦ group-stored e
-            | inr e ↦ group-new e (omega (arith, is ∙ ap (λ b. pick b maxLimit 0) e))
-          ]
-
-    pub group-below : group own .limit ≤ group (group own .parent) .limit → groupFault f group own ≡ Fine
+    pub group-below : none ≡ true → groupFault f s start own ≡ Fine
     group-below less =
         elim (either (f .stored)) [
           | inl e ↦ group-stored e
@@ -204,6 +212,8 @@ module _ (f : Form) (s : List ℕ) where
             reading f s
             ≡ Accepted
             (record {
+              week = f .week;
+              day = f .day;
               cards = cards;
               shops = shops;
               rows = rows;

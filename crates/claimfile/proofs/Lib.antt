@@ -1,4 +1,5 @@
 -- The laws of the claim file.
+pub mod WidthLaws
 pub mod FileLaws
 pub mod AcceptedLaws
 pub mod SectionLaws
@@ -9,4 +10,6 @@ pub mod PutLaws
 pub mod WrittenLaws
 pub mod StoredLaws
 pub mod BegunLaws
+pub mod SameLaws
 pub mod ClaimsLaws
+pub mod WeekLaws

@@ -6,6 +6,7 @@
 --   stored-rank            so it has the same rank
 --   stored-kept stored-choice  "The lowered file keeps the same rows as the limits as stored would"
 --   stored-spare           and a row has as many spare places
+use mathlib.Core.Bool.{false}
 use mathlib.Core.Path.{_≡_}
 use mathlib.Core.Logic.{_↔_}
 use mathlib.Core.List.{List}
@@ -16,20 +17,21 @@ use Rattle.theory.specs.Matroid.{Rank}
 use Rattle.theory.specs.Search.{bestChoice}
 use Rattle.theory.specs.Spare.{sparePlaces}
 use Rattle.theory.proofs.ListsLaws.{SameLists, lists-turned, KeptOf, lists-rank, lists-kept, lists-choice}
-use Rattle.claimfile.specs.File.{newFile, storedFile, reading}
+use Rattle.claimfile.specs.File.{asStored, reading}
 use Rattle.claimfile.specs.Day.{kindOf, groupsOf, writtenOf, limitOf, networkOf, instanceOf, writtenDay}
 use Rattle.claimfile.specs.Sound.{Sound}
+use Rattle.claimfile.specs.declared.Form.{Form}
 use Rattle.claimfile.specs.declared.Layout.{Layout}
 use Rattle.claimfile.specs.declared.Reading.the-variants.{Accepted}
 use Rattle.claimfile.proofs.AcceptedLaws.{accepted-stored, new-below}
 use Rattle.claimfile.proofs.DayLaws.{limit-written, limit-lists, limit-spare}
 
-pub new-limits :
-    (s : List ℕ) (l : Layout) → reading newFile s ≡ Accepted l → (v : ℕ) → v < groupsOf l → limitOf s l v ≡ writtenOf s l v
-new-limits s l is = limit-written s l (new-below s l is)
+module _ (f : Form) (s : List ℕ) (l : Layout) (is : reading f s ≡ Accepted l) where
+  pub new-limits : f .stored ≡ false → (v : ℕ) → v < groupsOf l → limitOf s l v ≡ writtenOf s l v
+  new-limits new = limit-written s l (new-below f s l is new)
 
-pub new-stored : (s : List ℕ) (l : Layout) → reading newFile s ≡ Accepted l → reading storedFile s ≡ Accepted l
-new-stored s l = accepted-stored newFile s l
+  pub new-stored : reading (asStored f) s ≡ Accepted l
+  new-stored = accepted-stored f s l is
 
 module _ (s : List ℕ) (l : Layout) (sound : Sound s l) where
   abbrev lists : SameLists (writtenDay s l) (instanceOf s l)

@@ -9,6 +9,7 @@
 --   written-accepted written-sound     the file is accepted, with the layout for its counts, and so it is sound
 --   written-bytes                      each of its cells is a byte
 --   same-contents same-bytes           the same contents give the same bytes, and back
+use mathlib.Core.Bool.{Bool, true, false, true≢false}
 use mathlib.Core.Path.{_≡_, refl, sym, ap, ap₂, _∙_, subst}
 use mathlib.Core.Logic.{inl, inr}
 use mathlib.Core.List.{List, [], _∷_, _++_}
@@ -18,12 +19,13 @@ use native.Mathlib.Omega.{arith}
 use lib.ListN.{length, getD, take, drop, length-append, length-drop}
 use borrow.Author.Tests.{le-ltb, lt-leb}
 use Rattle.theory.specs.Bounds.{maxGroups, maxRows}
-use Rattle.claimfile.specs.File.{newFile, groupWidth, claimWidth, word, groupAt, claimAt, groupFault, claimFault}
+use Rattle.claimfile.specs.File.{storedWeek, days, columns, columnOf, groupWidth, claimWidth}
+use Rattle.claimfile.specs.File.{word, limitAt, recordAt, groupAt, claimAt, noneAbove, groupFault, claimFault}
 use Rattle.claimfile.specs.File.{sectionBy, sectionAt, claimsAt, reading}
-use Rattle.claimfile.specs.Day.{startOf, groupOf, claims, claimOf}
+use Rattle.claimfile.specs.Day.{startOf, groupOf, onDay, claims, claimOf}
 use Rattle.claimfile.specs.Sound.{SmallerOrTop, Sound}
-use Rattle.claimfile.specs.Written.{Contents, recordsOn, bytesOf, groupBytes, claimBytes, records, section, fileBytes}
-use Rattle.claimfile.specs.Written.{layoutOf, lengthOf, TwoSided, Proper, SameContents}
+use Rattle.claimfile.specs.Written.{WeekGroup, onDayOf, Contents, recordsOn, bytesOf, groupBytes, claimBytes, records, section}
+use Rattle.claimfile.specs.Written.{fileBytes, layoutOf, lengthOf, TwoSided, Ranged, Proper, SameContents}
 use Rattle.claimfile.specs.Put.{Holds, countPlace, rowCountPlace, groupPlace, claimPlace, Begun}
 use Rattle.claimfile.specs.declared.Form.{Form}
 use Rattle.claimfile.specs.declared.Refusal.{Refusal}
@@ -35,11 +37,13 @@ use Rattle.claimfile.specs.declared.Reading.the-variants.{Accepted}
 use Rattle.claimfile.specs.declared.Layout.{Layout}
 use Rattle.claimfile.specs.declared.Group.{Group}
 use Rattle.claimfile.specs.declared.Claim.{Claim}
-use Rattle.claimfile.proofs.FileLaws.{group-top, group-below, records-pass, count-fits, section-fits, accepted}
+use Rattle.theory.proofs.TestLaws.{either}
+use Rattle.claimfile.proofs.FileLaws.{above-none, group-top, group-stored, group-new}
+use Rattle.claimfile.proofs.FileLaws.{records-pass, count-fits, section-fits, accepted}
 use Rattle.claimfile.proofs.AcceptedLaws.{one-layout, accepted-sound}
 use Rattle.claimfile.proofs.PutLaws.{same-cell, holds-self, holds-take, holds-drop}
 use Rattle.claimfile.proofs.PutLaws.{holds-first, holds-second, holds-append}
-use Rattle.claimfile.proofs.PutLaws.{records-length, holds-record, holds-records, records-same}
+use Rattle.claimfile.proofs.PutLaws.{records-length, holds-record, holds-records, records-same, group-length, group-same}
 use Rattle.claimfile.proofs.PutLaws.{Bytes, bytes-append, bytes-word, bytes-records}
 
 --------------------------------------------------------------------------------
@@ -50,15 +54,16 @@ word-back s at n h =
     omega (arith, same-cell s at (at + 0) (omega arith) ∙ h 0 (omega arith), h 1 (omega arith))
 
 pub group-back :
-    (s : List ℕ) (start g : ℕ) (group : Group) → Holds s (start + groupWidth * g) (groupBytes group) →
-    groupAt s start g ≡ group
-group-back s start g group h =
-    let at = start + groupWidth * g in
+    (s : List ℕ) (start g : ℕ) (group : WeekGroup) → Holds s (recordAt true start g) (groupBytes group) →
+    (k : ℕ) → k < days → groupAt true k s start g ≡ onDayOf group k
+group-back s start g group h k small =
+    let at = recordAt true start g in
     let parent = bytesOf (group .parent) in
-    let limit = bytesOf (group .limit) in
+    let limit : ℕ → List ℕ = λ k. bytesOf (group .limit k) in
     rw (
-      word-back s at (group .parent) (holds-first s at parent limit h),
-      word-back s (at + 2) (group .limit) (holds-second s at parent limit (at + 2) refl h),
+      word-back s at (group .parent) (holds-first s at parent (records days limit) h),
+      word-back s (at + 2 + 2 * k) (group .limit k)
+          (holds-record 2 limit (λ i. refl) s (at + 2) days (holds-second s at parent (records days limit) (at + 2) refl h) k small),
     )
 
 pub claim-back :
@@ -76,6 +81,10 @@ claim-back s start c claim h =
       word-back r (at + 2) (claim .shop) (holds-second r at card shop (at + 2) refl both),
       all 4 (omega arith),
     )
+
+-- in the week layout a day has its own column
+column-of : (k : ℕ) → k < days → columnOf true k ≡ k
+column-of k h = omega arith
 
 --------------------------------------------------------------------------------
 -- A section
@@ -119,16 +128,24 @@ section-passes s at most over width checked n start next whole count small fine 
     section-fits s at most over width checked (count-fits s at most over whole (omega arith))
     ∙ rw (fine, count, after, e)
 
+-- where a new file's limits are nowhere above their parent's
 pub group-passes :
-    (f : Form) (group : ℕ → Group) (own : ℕ) → SmallerOrTop own (group own .parent) →
-    (group own .parent < own → group own .limit ≤ group (group own .parent) .limit) → groupFault f group own ≡ Fine
-group-passes f group own parent limit =
-    elim (decLt (group own .parent) own) [
-      | yes small ↦ group-below f group own small (limit small)
+    (f : Form) (s : List ℕ) (start own : ℕ) → SmallerOrTop own (word s (recordAt (f .week) start own)) →
+    (f .stored ≡ false → word s (recordAt (f .week) start own) < own →
+    noneAbove s (recordAt (f .week) start own) (recordAt (f .week) start (word s (recordAt (f .week) start own))) (columns (f .week))
+    ≡ true) →
+    groupFault f s start own ≡ Fine
+group-passes f s start own parent limits =
+    elim (decLt (word s (recordAt (f .week) start own)) own) [
+      | yes small ↦
+          elim (either (f .stored)) [
+            | inl e ↦ group-stored f s start own small e
+            | inr e ↦ group-new f s start own small e (limits e small)
+          ]
       | no h ↦
           elim parent [
             | inl small ↦ absurd (h small)
-            | inr is ↦ group-top f group own (omega arith) is
+            | inr is ↦ group-top f s start own (omega arith) is
           ]
     ]
 
@@ -163,15 +180,15 @@ module _ (d : Contents) where
   abbrev both : List ℕ
   both = groupSection d 0 ++ groupSection d 1
 
-  group-length : (side : ℕ) → length (groupSection d side) ≡ 2 + groupWidth * recordsOn d side
-  group-length side = section-length groupWidth (recordsOn d side) (groupsFor d side) (λ g. refl)
+  groups-length : (side : ℕ) → length (groupSection d side) ≡ 2 + groupWidth true * recordsOn d side
+  groups-length side = section-length (groupWidth true) (recordsOn d side) (groupsFor d side) (λ g. group-length (d .group side g))
 
   cards-length : countPlace l 1 ≡ 0 + length (groupSection d 0)
-  cards-length = omega (arith, group-length 0)
+  cards-length = omega (arith, groups-length 0)
 
   both-length : rowCountPlace l ≡ 0 + length both
   both-length =
-      omega (arith, length-append (groupSection d 0) (groupSection d 1), group-length 0, group-length 1)
+      omega (arith, length-append (groupSection d 0) (groupSection d 1), groups-length 0, groups-length 1)
 
   pub written-length : length (fileBytes d) ≡ lengthOf d
   unfolding fileBytes
@@ -225,11 +242,11 @@ module _ (d : Contents) where
       TwoSided d → (side g : ℕ) → g < recordsOn d side →
       Holds (fileBytes d) (groupPlace (layoutOf d) side g) (groupBytes (d .group side g))
   written-place sides zero =
-      section-record groupWidth (d .cards) (groupsFor d 0) (λ g. refl) s 0 2 (start-behind 0) cards-held
+      section-record (groupWidth true) (d .cards) (groupsFor d 0) (λ g. group-length (d .group 0 g)) s 0 2 (start-behind 0) cards-held
   written-place sides (suc n) = λ g h.
       subst (λ x. Holds s (groupPlace l 1 g) (groupBytes x)) (sym (sides n g))
-      (section-record groupWidth (d .shops) (groupsFor d 1) (λ g. refl) s (countPlace l 1) (startOf l 1) (start-behind 1)
-      shops-held g h)
+      (section-record (groupWidth true) (d .shops) (groupsFor d 1) (λ g. group-length (d .group 1 g)) s (countPlace l 1) (startOf l 1)
+      (start-behind 1) shops-held g h)
 
   pub written-row :
       (c : ℕ) → c < d .rows → Holds (fileBytes d) (claimPlace (layoutOf d) c) (claimBytes (d .claim c))
@@ -246,89 +263,121 @@ module _ (d : Contents) where
     where
       groups : (side : ℕ) → side ≤ 1 → Holds t (countPlace l side) (groupSection d side)
       groups side m =
-          holds-section groupWidth (recordsOn d side) (groupsFor d side) (λ g. refl) t (countPlace l side) (startOf l side)
-          (start-behind side) (b .counts side) (λ g h. b .groups side g h (all-groups side g m h))
+          holds-section (groupWidth true) (recordsOn d side) (groupsFor d side) (λ g. group-length (d .group side g)) t
+          (countPlace l side) (startOf l side) (start-behind side) (b .counts side) (λ g h. b .groups side g h (all-groups side g m h))
 
       rows : Holds t (rowCountPlace l) (claimSection d)
       rows =
           holds-section claimWidth (d .rows) (claimsFor d) (λ c. refl) t (rowCountPlace l) (l .«row_at») rows-behind
           (b .row-count) (λ c h. b .claims c h (all-claims c h))
 
+  written-record :
+      TwoSided d → (side g : ℕ) → g < recordsOn d side → (k : ℕ) → k < days →
+      groupAt true k s (startOf l side) g ≡ onDayOf (d .group side g) k
+  written-record sides side g h = group-back s (startOf l side) g (d .group side g) (written-place sides side g h)
+
   pub written-group :
-      TwoSided d → (side g : ℕ) → g < recordsOn d side → groupOf (fileBytes d) (layoutOf d) side g ≡ d .group side g
-  written-group sides side g h = group-back s (startOf l side) g (d .group side g) (written-place sides side g h)
+      TwoSided d → (k side g : ℕ) → k < days → g < recordsOn d side →
+      groupOf (fileBytes d) (onDay (layoutOf d) k) side g ≡ onDayOf (d .group side g) k
+  written-group sides k zero g m h = ap (λ x. groupAt true x s 2 g) (column-of k m) ∙ written-record sides 0 g h k m
+  written-group sides k (suc n) g m h =
+      ap (λ x. groupAt true x s (startOf l 1) g) (column-of k m) ∙ written-record sides (suc n) g h k m
 
   pub written-claim : (c : ℕ) → c < d .rows → claimOf (fileBytes d) (layoutOf d) c ≡ d .claim c
   written-claim c h = claim-back s (l .«row_at») c (d .claim c) (written-row c h)
 
   --------------------------------------------------------------------------------
-  -- Proper contents
+  -- Contents within range
 
-  module _ (proper : Proper d) where
+  module _ (ranged : Ranged d) where
     most : (side : ℕ) → recordsOn d side ≤ maxGroups
-    most zero = proper .cards-most
-    most (suc n) = proper .shops-most
+    most zero = ranged .cards-most
+    most (suc n) = ranged .shops-most
 
-    within : (side : ℕ) → startOf l side + groupWidth * recordsOn d side ≤ length s
+    within : (side : ℕ) → startOf l side + groupWidth true * recordsOn d side ≤ length s
     within zero = omega (arith, written-length)
     within (suc n) = omega (arith, written-length)
 
-    -- the record of a group, read back, has no fault
-    group-fits : (f : Form) (side g : ℕ) → g < recordsOn d side → groupFault f (groupOf s l side) g ≡ Fine
-    group-fits f side g h =
-        let back : (i : ℕ) → i < recordsOn d side → groupOf s l side i ≡ d .group side i = written-group (proper .sides) side in
-        let up = ap (λ (x : Group). x .parent) (back g h) in
-        group-passes f (groupOf s l side) g (subst (SmallerOrTop g) (sym up) (proper .parents side g h))
-        (λ small.
-        omega (
-          arith,
-          proper .below side g h (omega arith),
-          ap (λ (x : Group). x .limit) (back g h),
-          ap (λ (x : Group). x .limit) (back (groupOf s l side g .parent) (omega arith)),
-          ap (λ i. d .group side i .limit) up,
-        ))
+    -- the record of a group, read back
+    back : (side g : ℕ) → g < recordsOn d side → (k : ℕ) → k < days → groupAt true k s (startOf l side) g ≡ onDayOf (d .group side g) k
+    back = written-record (ranged .sides)
 
-    groups-read :
-        (f : Form) (side next : ℕ) → next ≡ startOf l side + groupWidth * recordsOn d side →
-        sectionAt f s (countPlace l side) ≡ Read (recordsOn d side) (startOf l side) next
-    unfolding sectionAt
-    groups-read f side next after =
-        let count = word-back s (countPlace l side) (recordsOn d side) (written-count side) in
-        section-passes s (countPlace l side) maxGroups GroupCount groupWidth _ (recordsOn d side) (startOf l side) next
-        (omega (arith, within side, start-behind side)) count (most side)
-        (rw (← start-behind side, count)
-        (records-pass (length s) (startOf l side) groupWidth (groupFault f (groupOf s l side)) (recordsOn d side)
-        (λ g h. omega (arith, within side)) (group-fits f side) (recordsOn d side) 0 (omega arith)))
-        (start-behind side) after
+    parent-back : (side g : ℕ) → g < recordsOn d side → word s (recordAt true (startOf l side) g) ≡ d .group side g .parent
+    parent-back side g h = ap (λ (x : Group). x .parent) (back side g h 0 (omega arith))
+
+    limit-back :
+        (side g : ℕ) → g < recordsOn d side → (k : ℕ) → k < days →
+        limitAt s (recordAt true (startOf l side) g) k ≡ d .group side g .limit k
+    limit-back side g h k m = ap (λ (x : Group). x .limit) (back side g h k m)
+
+    -- it has no fault: a stored file's limits are not judged, and those of proper contents are nowhere above their parent's
+    module _ (stored : Bool) (day : ℕ) (judged : stored ≡ false → Proper d) where
+      abbrev f : Form
+      f = record { week = true; stored = stored; day = day }
+
+      group-fits : (side g : ℕ) → g < recordsOn d side → groupFault f s (startOf l side) g ≡ Fine
+      group-fits side g h =
+          group-passes f s (startOf l side) g (subst (SmallerOrTop g) (sym up) (ranged .parents side g h))
+          (λ new small.
+          above-none s _ _ days
+          (λ k m.
+          omega (
+            arith,
+            judged new .below k side g m h (omega (arith, up)),
+            limit-back side g h k m,
+            limit-back side (word s (recordAt true (startOf l side) g)) (omega arith) k m,
+            ap (λ i. d .group side i .limit k) up,
+          )))
+        where
+          up : word s (recordAt true (startOf l side) g) ≡ d .group side g .parent
+          up = parent-back side g h
+
+      groups-read :
+          (side next : ℕ) → next ≡ startOf l side + groupWidth true * recordsOn d side →
+          sectionAt f s (countPlace l side) ≡ Read (recordsOn d side) (startOf l side) next
+      unfolding sectionAt
+      groups-read side next after =
+          let count = word-back s (countPlace l side) (recordsOn d side) (written-count side) in
+          section-passes s (countPlace l side) maxGroups GroupCount (groupWidth true) _ (recordsOn d side) (startOf l side) next
+          (omega (arith, within side, start-behind side)) count (most side)
+          (rw (← start-behind side, count)
+          (records-pass (length s) (startOf l side) (groupWidth true) (groupFault f s (startOf l side)) (recordsOn d side)
+          (λ g h. omega (arith, within side)) (group-fits side) (recordsOn d side) 0 (omega arith)))
+          (start-behind side) after
 
     rows-read : claimsAt s (rowCountPlace l) (d .cards) (d .shops) ≡ Read (d .rows) (l .«row_at») (lengthOf d)
     unfolding claimsAt
     rows-read =
         let count = word-back s (rowCountPlace l) (d .rows) written-row-count in
         section-passes s (rowCountPlace l) maxRows ClaimCount claimWidth _ (d .rows) (l .«row_at») (lengthOf d)
-        (omega (arith, written-length)) count (proper .rows-most)
+        (omega (arith, written-length)) count (ranged .rows-most)
         (rw (← rows-behind, count)
         (records-pass (length (claims s l)) 0 claimWidth (λ c. claimFault (claimOf s l c) (d .cards) (d .shops)) (d .rows)
         (λ c h. omega (arith, written-length, length-drop (l .«row_at») s))
         (λ c h.
         ap (λ (x : Claim). claimFault x (d .cards) (d .shops)) (written-claim c h)
-        ∙ claim-passes (d .claim c) (d .cards) (d .shops) (proper .claim-cards c h) (proper .claim-shops c h)
-        (proper .claim-kinds c h))
+        ∙ claim-passes (d .claim c) (d .cards) (d .shops) (ranged .claim-cards c h) (ranged .claim-shops c h)
+        (ranged .claim-kinds c h))
         (d .rows) 0 (omega arith)))
         rows-behind (omega arith)
 
-    pub written-accepted : (f : Form) → reading f (fileBytes d) ≡ Accepted (layoutOf d)
-    written-accepted f =
-        accepted f s (d .cards) 2 (countPlace l 1) (groups-read f 0 (countPlace l 1) (omega arith)) (d .shops) (startOf l 1)
-        (rowCountPlace l) (groups-read f 1 (rowCountPlace l) (omega arith)) (d .rows) (l .«row_at») (lengthOf d) rows-read
+    -- as a stored file, or as a new one where the contents are proper
+    pub written-accepted :
+        (stored : Bool) (day : ℕ) → (stored ≡ false → Proper d) →
+        reading (record { week = true; stored = stored; day = day }) (fileBytes d) ≡ Accepted (onDay (layoutOf d) day)
+    written-accepted stored day judged =
+        accepted (record { week = true; stored = stored; day = day }) s (d .cards) 2 (countPlace l 1)
+        (groups-read stored day judged 0 (countPlace l 1) (omega arith)) (d .shops) (startOf l 1) (rowCountPlace l)
+        (groups-read stored day judged 1 (rowCountPlace l) (omega arith)) (d .rows) (l .«row_at») (lengthOf d) rows-read
         (omega (arith, written-length))
 
-    pub written-sound : Sound (fileBytes d) (layoutOf d)
-    written-sound = accepted-sound newFile s l (written-accepted newFile)
+    pub written-sound : (day : ℕ) → Sound (fileBytes d) (onDay (layoutOf d) day)
+    written-sound day =
+        accepted-sound (storedWeek day) s (onDay l day) (written-accepted true day (λ e. absurd (true≢false e)))
 
     parent-below : (side g : ℕ) → g < recordsOn d side → d .group side g .parent < 65536
     parent-below side g h =
-        elim (proper .parents side g h) [
+        elim (ranged .parents side g h) [
           | inl small ↦ omega (arith, most side)
           | inr is ↦ omega arith
         ]
@@ -337,20 +386,21 @@ module _ (d : Contents) where
     groups-bytes side =
         section-bytes (recordsOn d side) (groupsFor d side) (omega (arith, most side))
         (λ g h.
-        bytes-append (bytesOf (d .group side g .parent)) (bytesOf (d .group side g .limit))
+        bytes-append (bytesOf (d .group side g .parent)) (records days (λ k. bytesOf (d .group side g .limit k)))
         (bytes-word (d .group side g .parent) (parent-below side g h))
-        (bytes-word (d .group side g .limit) (omega (arith, proper .limits side g h))))
+        (bytes-records days (λ k. bytesOf (d .group side g .limit k))
+        (λ k m. bytes-word (d .group side g .limit k) (omega (arith, ranged .limits k side g m h)))))
 
     claim-bytes : (c : ℕ) → c < d .rows → Bytes (claimsFor d c)
     claim-bytes c h =
         bytes-append (bytesOf (d .claim c .card) ++ bytesOf (d .claim c .shop)) (d .claim c .kind ∷ [])
         (bytes-append (bytesOf (d .claim c .card)) (bytesOf (d .claim c .shop))
-        (bytes-word (d .claim c .card) (omega (arith, proper .claim-cards c h, proper .cards-most)))
-        (bytes-word (d .claim c .shop) (omega (arith, proper .claim-shops c h, proper .shops-most))))
+        (bytes-word (d .claim c .card) (omega (arith, ranged .claim-cards c h, ranged .cards-most)))
+        (bytes-word (d .claim c .shop) (omega (arith, ranged .claim-shops c h, ranged .shops-most))))
         kind
       where
         kind : Bytes (d .claim c .kind ∷ [])
-        kind zero = omega (arith, proper .claim-kinds c h)
+        kind zero = omega (arith, ranged .claim-kinds c h)
         kind (suc i) = omega arith
 
     pub written-bytes : (i : ℕ) → getD (fileBytes d) i 0 < 256
@@ -358,7 +408,7 @@ module _ (d : Contents) where
     written-bytes =
         bytes-append both (claimSection d)
         (bytes-append (groupSection d 0) (groupSection d 1) (groups-bytes 0) (groups-bytes 1))
-        (section-bytes (d .rows) (claimsFor d) (omega (arith, proper .rows-most)) claim-bytes)
+        (section-bytes (d .rows) (claimsFor d) (omega (arith, ranged .rows-most)) claim-bytes)
 
 --------------------------------------------------------------------------------
 -- The same contents, and the same bytes
@@ -373,13 +423,16 @@ module _ (d e : Contents) where
       (section-same (d .rows) (e .rows) (claimsFor d) (claimsFor e) (same .rows) (λ c h. ap claimBytes (same .claims c h)))
     where
       groups : (side g : ℕ) → g < recordsOn d side → groupsFor d side g ≡ groupsFor e side g
-      groups side g h = ap groupBytes (same .groups side g h)
+      groups side g h = group-same (d .group side g) (e .group side g) (same .groups side g h)
 
-  module _ (of-d : Proper d) (of-e : Proper e) (same : fileBytes d ≡ fileBytes e) where
+  module _ (of-d : Ranged d) (of-e : Ranged e) (same : fileBytes d ≡ fileBytes e) where
     layout-same : layoutOf d ≡ layoutOf e
     layout-same =
-        one-layout (reading newFile (fileBytes d)) (layoutOf d) (layoutOf e) (written-accepted d of-d newFile)
-        (ap (reading newFile) same ∙ written-accepted e of-e newFile)
+        one-layout (reading (storedWeek 0) (fileBytes d)) (layoutOf d) (layoutOf e) (written-accepted d of-d true 0 never)
+        (ap (reading (storedWeek 0)) same ∙ written-accepted e of-e true 0 never)
+      where
+        never : {A : Type 0} → true ≡ false → A
+        never e = absurd (true≢false e)
 
     count-same : (side : ℕ) → recordsOn d side ≡ recordsOn e side
     count-same zero = ap (λ (x : Layout). x .cards) layout-same
@@ -388,6 +441,13 @@ module _ (d e : Contents) where
     row-count-same : d .rows ≡ e .rows
     row-count-same = ap (λ (x : Layout). x .rows) layout-same
 
+    group-read :
+        (k side g : ℕ) → k < days → g < recordsOn d side → onDayOf (d .group side g) k ≡ onDayOf (e .group side g) k
+    group-read k side g m h =
+        sym (written-group d (of-d .sides) k side g m h)
+        ∙ ap₂ (λ x y. groupOf x (onDay y k) side g) same layout-same
+        ∙ written-group e (of-e .sides) k side g m (omega (arith, count-same side))
+
     pub same-bytes : SameContents d e
     same-bytes =
         record {
@@ -395,9 +455,10 @@ module _ (d e : Contents) where
           shops = count-same 1;
           rows = row-count-same;
           groups = λ side g h.
-              sym (written-group d (of-d .sides) side g h)
-              ∙ ap₂ (λ x y. groupOf x y side g) same layout-same
-              ∙ written-group e (of-e .sides) side g (omega (arith, count-same side));
+              record {
+                parent = ap (λ (x : Group). x .parent) (group-read 0 side g (omega arith) h);
+                limits = λ k m. ap (λ (x : Group). x .limit) (group-read k side g m h);
+              };
           claims = λ c h.
               sym (written-claim d c h)
               ∙ ap₂ (λ x y. claimOf x y c) same layout-same

@@ -1,15 +1,24 @@
 -- The claim file of document 01, "The claim file" and "Turned-away files": what any list of bytes is, accepted or refused.
---   newFile, storedFile    how a call takes a new file, and one that was stored before limits were judged
+--   newWeek d, storedWeek d, newOld d, storedOld d     how a call takes its file for day d: in the week layout or in the old one, new or
+--                          stored before limits were judged
+--   asStored f, forDay f d the same layout and day, as a stored file; the same sort of file for day d
 --   top                    the parent of a group at the top, which is the greatest number of 16 bits
---   groupWidth claimWidth  how many bytes a group record and a claim record have
+--   days                   how many days a week has, numbered from 0
+--   columns week           how many limits a group record has: one a day in the week layout, one for all days in the old one
+--   columnOf week day      which of them is that of a day; of a day that the week does not have, which the calls turn away, that of the last
+--   groupWidth week        how many bytes a group record has
+--   claimWidth             how many bytes a claim record has
 --   word s at              the 16-bit number at a place, low byte first; a byte past the end is 0
---   groupAt s start g      the group record g of the section whose records start there: parent, limit
+--   limitAt s at k         limit k of the group record at a place
+--   recordAt week start g  where the group record g stands, in a section whose records start at `start`
+--   groupAt week k s start g   that record: parent, and its limit in column k
 --   claimAt r c            the claim record c of a claims section r, given from its first record on: card group, shop group, kind
 --   orElse x y             the first fault of two checks
 --   parentFits own parent  whether a group with its own number may have that parent
 --   parentFault own group  the fault of a group's parent
---   limitFault f limit most    the fault of a limit whose parent's is `most`: none is judged in a stored file
---   groupFault f group own the first fault of the fields of a group, where `group` has the records of its section
+--   noneAbove s own parent n   whether none of the n limits of the record at `own` is above that of the record at `parent`
+--   limitsFault f s own parent     the fault of a record's limits by its parent's record: none is judged in a stored file
+--   groupFault f s start own   the first fault of the fields of group `own` of the section whose records start there
 --   claimFault claim cards shops   the first fault of a claim's fields
 --   recordsFrom size start width fault k left   the first fault of the records that are left from record k on, where the first
 --                          record starts at `start` of `size` bytes, each has `width` of them, and `fault` is that of its fields
@@ -24,14 +33,15 @@
 -- "The file is read from the front and the first fault met is the one told. A count is judged before its records, a record must
 -- be whole before its fields are judged, and fields are judged in order (card group, shop group, kind)."
 -- Document 02, E4: "11, a group's limit is above its parent's, judged on the same record after 3, and not by the calls for stored
--- files."
-use Prim.Native.Nat.{ℕ, zero, suc, _+_, _*_}
+-- files." E9: "A group record becomes 16 bytes: parent, then seven limits of 16 bits, for days 0 to 6. .. Old-layout files .. act as ones with
+-- the same limit on seven days. The parent test and the lowering of E4 hold for each of the seven."
+use Prim.Native.Nat.{ℕ, zero, suc, _+_, _*_, min}
 use mathlib.Core.List.{List}
 use mathlib.Core.Bool.{Bool, true, false}
 use lib.ListN.{length, getD, drop}
 use lib.Dec.{ltb, leb, eqb}
 use Rattle.theory.specs.Bounds.{maxGroups, maxRows, maxLimit}
-use Rattle.theory.specs.Sum.{pick}
+use Rattle.theory.specs.Sum.{pick, every}
 use Rattle.claimfile.specs.declared.Form.{Form}
 use Rattle.claimfile.specs.declared.Refusal.{Refusal}
 use Rattle.claimfile.specs.declared.Refusal.the-variants.{CutOff, GroupCount, Parent, ClaimCount, NoSuchGroup}
@@ -45,17 +55,39 @@ use Rattle.claimfile.specs.declared.Reading.the-variants.{Accepted, Refu
 use Rattle.claimfile.specs.declared.Group.{Group}
 use Rattle.claimfile.specs.declared.Claim.{Claim}
 
-abbrev pub newFile : Form
-newFile = record { stored = false }
+abbrev pub newWeek : ℕ → Form
+newWeek d = record { week = true; stored = false; day = d }
 
-abbrev pub storedFile : Form
-storedFile = record { stored = true }
+abbrev pub storedWeek : ℕ → Form
+storedWeek d = record { week = true; stored = true; day = d }
+
+abbrev pub newOld : ℕ → Form
+newOld d = record { week = false; stored = false; day = d }
+
+abbrev pub storedOld : ℕ → Form
+storedOld d = record { week = false; stored = true; day = d }
+
+abbrev pub asStored : Form → Form
+asStored f = record { week = f .week; stored = true; day = f .day }
+
+abbrev pub forDay : Form → ℕ → Form
+forDay f d = record { week = f .week; stored = f .stored; day = d }
 
 abbrev pub top : ℕ
 top = maxLimit
 
-abbrev pub groupWidth : ℕ
-groupWidth = 4
+abbrev pub days : ℕ
+days = 7
+
+abbrev pub columns : Bool → ℕ
+columns week = pick week days 1
+
+abbrev pub columnOf : Bool → ℕ → ℕ
+columnOf week day = pick week (min day 6) 0
+
+-- parent and limits, of two bytes each
+abbrev pub groupWidth : Bool → ℕ
+groupWidth week = pick week 16 4
 
 abbrev pub claimWidth : ℕ
 claimWidth = 5
@@ -63,8 +95,14 @@ claimWidth = 5
 abbrev pub word : List ℕ → ℕ → ℕ
 word s at = getD s at 0 + 256 * getD s (at + 1) 0
 
-abbrev pub groupAt : List ℕ → ℕ → ℕ → Group
-groupAt s start g = record { parent = word s (start + groupWidth * g); limit = word s (start + groupWidth * g + 2) }
+abbrev pub limitAt : List ℕ → ℕ → ℕ → ℕ
+limitAt s at k = word s (at + 2 + 2 * k)
+
+abbrev pub recordAt : Bool → ℕ → ℕ → ℕ
+recordAt week start g = start + groupWidth week * g
+
+abbrev pub groupAt : Bool → ℕ → List ℕ → ℕ → ℕ → Group
+groupAt week k s start g = record { parent = word s (recordAt week start g); limit = limitAt s (recordAt week start g) k }
 
 abbrev pub claimAt : List ℕ → ℕ → Claim
 claimAt r c = record {
@@ -85,18 +123,23 @@ abbrev pub parentFits : ℕ → ℕ → Bool
 parentFits own parent = pick (ltb parent own) true (eqb parent top)
 
 -- refusal 3
-abbrev pub parentFault : ℕ → Group → Checked
-parentFault own group = pick (parentFits own (group .parent)) Fine (Fault Parent)
+abbrev pub parentFault : ℕ → ℕ → Checked
+parentFault own parent = pick (parentFits own parent) Fine (Fault Parent)
 
--- refusal 11
-abbrev pub limitFault : Form → ℕ → ℕ → Checked
-limitFault f limit most = pick (f .stored) Fine (pick (ltb most limit) (Fault LimitAbove) Fine)
+-- refusal 11, on any day
+unfoldable pub noneAbove : List ℕ → ℕ → ℕ → ℕ → Bool
+noneAbove s own parent n = every n (λ k. leb (limitAt s own k) (limitAt s parent k))
 
--- 3, then 11 on the same record; a group at the top has no parent whose limit could be passed
-unfoldable pub groupFault : Form → (ℕ → Group) → ℕ → Checked
-groupFault f group own =
-    orElse (parentFault own (group own))
-    (pick (ltb (group own .parent) own) (limitFault f (group own .limit) (group (group own .parent) .limit)) Fine)
+abbrev pub limitsFault : Form → List ℕ → ℕ → ℕ → Checked
+limitsFault f s own parent =
+    pick (f .stored) Fine (pick (noneAbove s own parent (columns (f .week))) Fine (Fault LimitAbove))
+
+-- 3, then 11 on the same record; a group at the top has no parent whose limits could be passed
+unfoldable pub groupFault : Form → List ℕ → ℕ → ℕ → Checked
+groupFault f s start own =
+    let at : ℕ → ℕ = recordAt (f .week) start in
+    let parent = word s (at own) in
+    orElse (parentFault own parent) (pick (ltb parent own) (limitsFault f s (at own) (at parent)) Fine)
 
 -- refusals 5 and 6: the fields of one claim in order
 unfoldable pub claimFault : Claim → ℕ → ℕ → Checked
@@ -114,7 +157,7 @@ recordsFrom size start width fault k (suc left) =
     (orElse (fault k) (recordsFrom size start width fault (suc k) left))
 
 abbrev pub groupsFrom : Form → List ℕ → ℕ → ℕ → ℕ → Checked
-groupsFrom f s start = recordsFrom (length s) start groupWidth (groupFault f (groupAt s start))
+groupsFrom f s start = recordsFrom (length s) start (groupWidth (f .week)) (groupFault f s start)
 
 abbrev pub rowsFrom : List ℕ → ℕ → ℕ → ℕ → ℕ → Checked
 rowsFrom r cards shops = recordsFrom (length r) 0 claimWidth (λ c. claimFault (claimAt r c) cards shops)
@@ -136,7 +179,7 @@ sectionBy s at most over width checked = sectionOf (orElse (countFault s at most
 
 -- one definition for cards and for shops
 unfoldable pub sectionAt : Form → List ℕ → ℕ → Section
-sectionAt f s at = sectionBy s at maxGroups GroupCount groupWidth (groupsFrom f s (at + 2) 0 (word s at))
+sectionAt f s at = sectionBy s at maxGroups GroupCount (groupWidth (f .week)) (groupsFrom f s (at + 2) 0 (word s at))
 
 -- the records are "the part of the file that starts at its first record"
 unfoldable pub claimsAt : List ℕ → ℕ → ℕ → ℕ → Section
@@ -151,12 +194,14 @@ refusedBy (Faulty why) = Refused why
 refusedBy (Read count start next) = Refused CutOff
 
 -- refusal 7, once every claim is read
-abbrev pub afterClaims : List ℕ → ℕ → ℕ → ℕ → ℕ → Section → Reading
-afterClaims s cards shops cardAt shopAt (Read rows rowAt end) =
+abbrev pub afterClaims : Form → List ℕ → ℕ → ℕ → ℕ → ℕ → Section → Reading
+afterClaims f s cards shops cardAt shopAt (Read rows rowAt end) =
     pick (ltb end (length s))
     (Refused Trailing)
     (Accepted
     (record {
+      week = f .week;
+      day = f .day;
       cards = cards;
       shops = shops;
       rows = rows;
@@ -164,14 +209,14 @@ afterClaims s cards shops cardAt shopAt (Read rows rowAt end) =
       «shop_at» = shopAt;
       «row_at» = rowAt;
     }))
-afterClaims s cards shops cardAt shopAt (Faulty why) = Refused why
+afterClaims f s cards shops cardAt shopAt (Faulty why) = Refused why
 
-abbrev pub afterShops : List ℕ → ℕ → ℕ → Section → Reading
-afterShops s cards cardAt (Read shops shopAt next) = afterClaims s cards shops cardAt shopAt (claimsAt s next cards shops)
-afterShops s cards cardAt (Faulty why) = Refused why
+abbrev pub afterShops : Form → List ℕ → ℕ → ℕ → Section → Reading
+afterShops f s cards cardAt (Read shops shopAt next) = afterClaims f s cards shops cardAt shopAt (claimsAt s next cards shops)
+afterShops f s cards cardAt (Faulty why) = Refused why
 
 abbrev pub afterCards : Form → List ℕ → Section → Reading
-afterCards f s (Read cards cardAt next) = afterShops s cards cardAt (sectionAt f s next)
+afterCards f s (Read cards cardAt next) = afterShops f s cards cardAt (sectionAt f s next)
 afterCards f s (Faulty why) = Refused why
 
 unfoldable pub reading : Form → List ℕ → Reading

@@ -1,18 +1,18 @@
 // The claim file: its sections, the first fault in it, and its records.
 //
-// `read` takes any bytes, as a new file or as a stored one, and says whether they are an accepted file, with its counts and the places
-// of its sections, or why they are refused. `group_of` and `claim_of` read one record of an accepted file. The functions of `write` put
-// counts and records into a lent buffer. No other crate knows how wide a record is or where its fields are.
+// `read` takes any bytes, in one of four forms, and says whether they are an accepted file, with its counts and the places of its
+// sections, or why they are refused. `group_of` and `claim_of` read one record of an accepted file. The functions of `write` put counts
+// and records into a lent buffer. No other crate knows how wide a record is or where its fields are.
 pub mod write;
 
 ghost use mathlib.Core.Path.{_≡_};
-ghost use Prim.Native.Nat.{_+_, _*_, _<_, _≤_};
+ghost use Prim.Native.Nat.{_+_, _*_, min, _<_, _≤_};
 ghost use lib.ListN.{length};
-ghost use Rattle.theory.specs.Bounds.{maxGroups, maxRows, maxLimit};
-ghost use Rattle.theory.specs.Sum.{pick};
-ghost use Rattle.claimfile.specs.File.{groupWidth, claimWidth, word, groupAt, claimAt, groupFault, claimFault};
+ghost use Rattle.theory.specs.Bounds.{maxGroups, maxRows};
+ghost use Rattle.claimfile.specs.File.{columns, columnOf, groupWidth, claimWidth, word, recordAt, groupAt, claimAt};
+ghost use Rattle.claimfile.specs.File.{noneAbove, groupFault, claimFault};
 ghost use Rattle.claimfile.specs.File.{groupsFrom, rowsFrom, countFault, sectionOf, sectionAt, claimsAt, refusedBy, reading};
-ghost use Rattle.claimfile.specs.Day.{startOf, countOf, groupOf, claimOf};
+ghost use Rattle.claimfile.specs.Day.{startOf, countOf, groupOf, onDay, claimOf};
 ghost use Rattle.claimfile.specs.Sound.{Sound};
 use theory::MAX_GROUPS;
 use theory::MAX_LIMIT;
@@ -20,16 +20,24 @@ use theory::MAX_ROWS;
 
 // The parent of a group at the top: the greatest number of 16 bits.
 pub const TOP: usize = MAX_LIMIT;
-// How many bytes a group record has: parent, limit.
-const GROUP_WIDTH: usize = 4;
+// How many days a week has. They are numbered from 0.
+pub const DAYS: usize = 7;
+// How many bytes a group record has in the week layout, parent and seven limits, and in the old layout, parent and limit.
+const WEEK_WIDTH: usize = 16;
+
+const OLD_WIDTH: usize = 4;
 // How many bytes a claim record has: card group, shop group, kind.
 const CLAIM_WIDTH: usize = 5;
 
-// How a call takes its file.
+// How a call takes its file: the sort of file that it is for, and the day that it names.
 pub struct Form {
+    // the week layout, with a limit for each day in a group record; else the old one, with one limit for all days
+    pub week: bool,
     // a file that was stored before limits were judged, whose limits are lowered; else a new one, in which none may be above its
     // parent's
     pub stored: bool,
+    // the day whose limits count; one that the week does not have is told by the calls
+    pub day: usize,
 }
 
 // Why a file is turned away: numbers 1 to 7 of document 01, in its order, and 11 of document 02.
@@ -60,8 +68,10 @@ enum Section {
     Faulty(Refusal),
 }
 
-// How many records each section of an accepted file has, and where the first of each starts.
+// How an accepted file is laid out, whose limits count, how many records each section has, and where the first of each starts.
 pub struct Layout {
+    pub week: bool,
+    pub day: usize,
     pub cards: usize,
     pub shops: usize,
     pub rows: usize,
@@ -100,15 +110,59 @@ fn u16_at(file: &[u8], at: usize) -> usize
     wide(file[at]) + 256 * wide(file[at + 1])
 }
 
-// The group record with number `g` of the section whose records start at `start`.
-fn group_at(file: &[u8], start: usize, g: usize) -> Group
-    requires { ⌜ start + groupWidth * g + groupWidth ≤ length (now file) ⌝ }
-    ensures { λ r. ⌜ (r ≡ groupAt (now (file .entry)) start g) × (r .parent < 65536) × (r .limit < 65536) ⌝ }
+// How many bytes a group record has.
+fn width_of(week: bool) -> usize
+    ensures { λ r. ⌜ r ≡ groupWidth week ⌝ }
 {
-    let at = start + GROUP_WIDTH * g;
+    if week {
+        return WEEK_WIDTH;
+    }
+    OLD_WIDTH
+}
+
+// How many limits a group record has.
+fn columns_of(week: bool) -> usize
+    ensures { λ r. ⌜ (r ≡ columns week) × (2 + 2 * r ≡ groupWidth week) ⌝ }
+{
+    if week {
+        return DAYS;
+    }
+    1
+}
+
+// Which limit of a group record is that of a day: of a day that the week does not have, that of the last one.
+fn column_of(week: bool, day: usize) -> usize
+    ensures { λ r. ⌜ (r ≡ columnOf week day) × (r < columns week) ⌝ }
+{
+    if week {
+        if day < DAYS {
+            return day;
+        }
+        return DAYS - 1;
+    }
+    0
+}
+
+// Where the group record with number `g` stands, in a section whose records start at `start`.
+fn record_at(week: bool, start: usize, g: usize) -> usize
+    requires { ⌜ recordAt week start g < 18446744073709551616 ⌝ }
+    ensures { λ r. ⌜ r ≡ recordAt week start g ⌝ }
+{
+    if week {
+        return start + WEEK_WIDTH * g;
+    }
+    start + OLD_WIDTH * g
+}
+
+// That record, with its limit in a column.
+fn group_at(file: &[u8], week: bool, column: usize, start: usize, g: usize) -> Group
+    requires { ⌜ (recordAt week start g + groupWidth week ≤ length (now file)) × (column < columns week) ⌝ }
+    ensures { λ r. ⌜ (r ≡ groupAt week column (now (file .entry)) start g) × (r .parent < 65536) × (r .limit < 65536) ⌝ }
+{
+    let at = record_at(week, start, g);
     Group {
         parent: u16_at(file, at),
-        limit: u16_at(file, at + 2),
+        limit: u16_at(file, at + 2 + 2 * column),
     }
 }
 
@@ -125,33 +179,43 @@ fn claim_at(rows: &[u8], c: usize) -> Claim
     }
 }
 
-// How far a limit may be above its parent's: not at all in a new file, and in a stored one as far as 16 bits go.
-fn most_above(form: Form) -> usize
-    ensures { λ r. ⌜ (r ≡ pick (form .stored) maxLimit 0) × (r ≤ maxLimit) ⌝ }
+// Whether none of the limits of the group record at `own` is above that of the one at `parent`.
+fn none_above(file: &[u8], week: bool, own: usize, parent: usize) -> bool
+    requires { ⌜ (own + groupWidth week ≤ length (now file)) × (parent + groupWidth week ≤ length (now file)) ⌝ }
+    ensures { λ r. ⌜ r ≡ noneAbove (now (file .entry)) own parent (columns week) ⌝ }
 {
-    if form.stored {
-        return MAX_LIMIT;
+    let columns = columns_of(week);
+    let mut k = 0;
+    while k < columns {
+        if u16_at(file, parent + 2 + 2 * k) < u16_at(file, own + 2 + 2 * k) {
+            return false;
+        }
+        k += 1;
     }
-    0
+    true
 }
 
-// The first fault of the fields of the group record with number `own`: its parent, and then its limit.
+// The first fault of the fields of the group record with number `own`: its parent, and then its limits.
 fn check_group(file: &[u8], form: Form, start: usize, own: usize) -> Checked
-    requires { ⌜ start + groupWidth * own + groupWidth ≤ length (now file) ⌝ }
-    ensures { λ r. ⌜ r ≡ groupFault form (groupAt (now (file .entry)) start) own ⌝ }
+    requires { ⌜ recordAt (form .week) start own + groupWidth (form .week) ≤ length (now file) ⌝ }
+    ensures { λ r. ⌜ r ≡ groupFault form (now (file .entry)) start own ⌝ }
 {
-    let group = group_at(file, start, own);
-    if own <= group.parent {
-        if group.parent != TOP {
+    let week = form.week;
+    let at = record_at(week, start, own);
+    let parent = u16_at(file, at);
+    if own <= parent {
+        if parent != TOP {
             return Checked::Fault(Refusal::Parent);
         }
         return Checked::Fine;
     }
-    let parent = group_at(file, start, group.parent);
-    if parent.limit + most_above(form) < group.limit {
-        return Checked::Fault(Refusal::LimitAbove);
+    if form.stored {
+        return Checked::Fine;
     }
-    Checked::Fine
+    if none_above(file, week, at, record_at(week, start, parent)) {
+        return Checked::Fine;
+    }
+    Checked::Fault(Refusal::LimitAbove)
 }
 
 // The first fault of one claim's fields, in their order.
@@ -170,40 +234,63 @@ fn check_claim(claim: Claim, cards: usize, shops: usize) -> Checked
     Checked::Fine
 }
 
-// The first fault of the group records that start at `start`.
+// How many group records are whole in so many bytes.
+fn whole_in(bytes: usize, week: bool) -> usize
+    ensures { λ r. ⌜ (groupWidth week * r ≤ bytes) × (bytes < groupWidth week * r + groupWidth week) ⌝ }
+{
+    if week {
+        return bytes / WEEK_WIDTH;
+    }
+    bytes / OLD_WIDTH
+}
+
+fn lesser(a: usize, b: usize) -> usize
+    ensures { λ r. ⌜ r ≡ min a b ⌝ }
+{
+    if a < b {
+        return a;
+    }
+    b
+}
+
+// The first fault of the group records that start at `start`: of those that are whole, and then that one is not.
 fn check_groups(file: &[u8], form: Form, start: usize, count: usize) -> Checked
     requires { ⌜ (start ≤ length (now file)) × (count ≤ maxGroups) ⌝ }
     ensures { λ r. ⌜ r ≡ groupsFrom form (now (file .entry)) start 0 count ⌝ }
 {
+    let whole = whole_in(file.len() - start, form.week);
+    let end = lesser(whole, count);
     let mut own = 0;
-    while own < count {
-        if file.len() - start < GROUP_WIDTH * own + GROUP_WIDTH {
-            return Checked::Fault(Refusal::CutOff);
-        }
+    while own < end {
         let checked = check_group(file, form, start, own);
         let Checked::Fine = checked else {
             return checked;
         };
         own += 1;
     }
+    if whole < count {
+        return Checked::Fault(Refusal::CutOff);
+    }
     Checked::Fine
 }
 
-// The first fault of a claims section, given from its first record on.
+// The first fault of a claims section, given from its first record on: of the records that are whole, and then that one is not.
 fn check_rows(rows: &[u8], count: usize, cards: usize, shops: usize) -> Checked
     requires { ⌜ count ≤ maxRows ⌝ }
     ensures { λ r. ⌜ r ≡ rowsFrom (now (rows .entry)) cards shops 0 count ⌝ }
 {
+    let whole = rows.len() / CLAIM_WIDTH;
+    let end = lesser(whole, count);
     let mut c = 0;
-    while c < count {
-        if rows.len() < CLAIM_WIDTH * c + CLAIM_WIDTH {
-            return Checked::Fault(Refusal::CutOff);
-        }
+    while c < end {
         let checked = check_claim(claim_at(rows, c), cards, shops);
         let Checked::Fine = checked else {
             return checked;
         };
         c += 1;
+    }
+    if whole < count {
+        return Checked::Fault(Refusal::CutOff);
     }
     Checked::Fine
 }
@@ -244,18 +331,14 @@ fn section_of(checked: Checked, count: usize, start: usize, width: usize) -> Sec
 fn read_groups(file: &[u8], form: Form, at: usize) -> Section
     ensures { λ r. ⌜ r ≡ sectionAt form (now (file .entry)) at ⌝ }
 {
+    let width = width_of(form.week);
     let counted = check_count(file, at, MAX_GROUPS, Refusal::GroupCount);
     let Checked::Fine = counted else {
-        return section_of(counted, 0, 0, GROUP_WIDTH);
+        return section_of(counted, 0, 0, width);
     };
     let count = u16_at(file, at);
     let start = at + 2;
-    section_of(
-        check_groups(file, form, start, count),
-        count,
-        start,
-        GROUP_WIDTH,
-    )
+    section_of(check_groups(file, form, start, count), count, start, width)
 }
 
 // The claims section whose count stands at `at`.
@@ -320,6 +403,8 @@ pub fn read(file: &[u8], form: Form) -> Reading
         return Reading::Refused(Refusal::Trailing);
     }
     Reading::Accepted(Layout {
+        week: form.week,
+        day: form.day,
         cards: counts[0],
         shops: counts[1],
         rows,
@@ -327,6 +412,22 @@ pub fn read(file: &[u8], form: Form) -> Reading
         shop_at: starts[1],
         row_at,
     })
+}
+
+// The same file, with the limits of a day.
+pub fn on_day(layout: Layout, day: usize) -> Layout
+    ensures { λ r. ⌜ r ≡ onDay layout day ⌝ }
+{
+    Layout {
+        week: layout.week,
+        day,
+        cards: layout.cards,
+        shops: layout.shops,
+        rows: layout.rows,
+        card_at: layout.card_at,
+        shop_at: layout.shop_at,
+        row_at: layout.row_at,
+    }
 }
 
 // Where the first group record of a side stands.
@@ -349,12 +450,19 @@ pub fn groups_on(layout: Layout, side: usize) -> usize
     layout.shops
 }
 
-// The record of group `g` of a side of an accepted file.
+// The record of group `g` of a side of an accepted file, with its limit of the layout's day.
 pub fn group_of(file: &[u8], layout: Layout, side: usize, g: usize) -> Group
     requires { ⌜ (Sound (now file) layout) × (g < countOf layout side) ⌝ }
     ensures { λ r. ⌜ (r ≡ groupOf (now (file .entry)) layout side g) × (r .parent < 65536) × (r .limit < 65536) ⌝ }
 {
-    group_at(file, start_of(layout, side), g)
+    let week = layout.week;
+    group_at(
+        file,
+        week,
+        column_of(week, layout.day),
+        start_of(layout, side),
+        g,
+    )
 }
 
 // The record of row `c` of an accepted file.

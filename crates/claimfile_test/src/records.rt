@@ -61,7 +61,14 @@ fn claims(file: &[u8], layout: Layout)
 
 // Every record of a file that is read as a stored one, or its refusal.
 pub fn records(file: &[u8]) {
-    let told = read(file, Form { stored: true });
+    let told = read(
+        file,
+        Form {
+            week: false,
+            stored: true,
+            day: 0,
+        },
+    );
     match told {
         Reading::Accepted(layout) => {
             groups(b"card group", file, layout, 0);

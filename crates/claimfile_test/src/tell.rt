@@ -27,7 +27,14 @@ fn reading(file: &[u8], form: Form) {
 // The name and what is told of the file as a new one.
 pub fn show(name: &[u8], file: &[u8]) {
     text(name);
-    reading(file, Form { stored: false });
+    reading(
+        file,
+        Form {
+            week: false,
+            stored: false,
+            day: 0,
+        },
+    );
 }
 
 fn first(buf: &[u8], n: usize, form: Form) {
@@ -39,14 +46,30 @@ fn first(buf: &[u8], n: usize, form: Form) {
 // The same for the first `n` bytes of a buffer.
 pub fn show_first(name: &[u8], buf: &[u8], n: usize) {
     text(name);
-    first(buf, n, Form { stored: false });
+    first(
+        buf,
+        n,
+        Form {
+            week: false,
+            stored: false,
+            day: 0,
+        },
+    );
 }
 
 // The same as a stored file.
 pub fn show_stored(name: &[u8], buf: &[u8], n: usize) {
     text(name);
     text(b", stored");
-    first(buf, n, Form { stored: true });
+    first(
+        buf,
+        n,
+        Form {
+            week: false,
+            stored: true,
+            day: 0,
+        },
+    );
 }
 
 fn cut(name: &[u8], file: &[u8], n: usize) {

@@ -8,6 +8,7 @@ ghost use Rattle.claimfile.specs.Day.{groupsOf, instanceOf};
 ghost use Rattle.claimfile.specs.Sound.{Sound};
 ghost use Rattle.closing.specs.Settle.{SettlesOn, Settles};
 ghost use Rattle.closing.specs.Close.{Countable, CountsUpTo, Lent, Settlement, ClosedBy};
+use claimfile::DAYS;
 use claimfile::Form;
 use claimfile::Layout;
 use claimfile::Reading;
@@ -113,7 +114,8 @@ pub fn marks_of(layout: Layout) -> usize
     layout.cards + layout.shops + layout.rows
 }
 
-// Settles an accepted file: 8 where a buffer is too short, else the best choice, the marks and a cleared scratch.
+// Settles an accepted file: 8 where a buffer is too short, 12 where the week does not have the day, else the best choice, the marks and a
+// cleared scratch.
 pub fn settle_on(
     file: &[u8],
     layout: Layout,
@@ -122,7 +124,7 @@ pub fn settle_on(
     scratch: &mut [u32],
 ) -> Settled
     requires { ⌜ Sound (now file) layout ⌝ }
-    ensures { λ r. ⌜ SettlesOn (instanceOf (now (file .entry)) layout) (now (choice .entry)) (now (sheet .entry)) (now (scratch .entry)) (now (choice .exit)) (now (sheet .exit)) (now (scratch .exit)) r ⌝ }
+    ensures { λ r. ⌜ SettlesOn (instanceOf (now (file .entry)) layout) (layout .day) (now (choice .entry)) (now (sheet .entry)) (now (scratch .entry)) (now (choice .exit)) (now (sheet .exit)) (now (scratch .exit)) r ⌝ }
 {
     let rows = layout.rows;
     let marks = marks_of(layout);
@@ -135,6 +137,9 @@ pub fn settle_on(
     }
     if scratch.len() < cells {
         return Settled::Refused(Reason::Short);
+    }
+    if DAYS <= layout.day {
+        return Settled::Refused(Reason::Day);
     }
     Settled::Closed(close(
         file,

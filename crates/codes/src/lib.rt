@@ -10,6 +10,7 @@ ghost use Rattle.claimfile.specs.Day.{instanceOf};
 ghost use Rattle.claimfile.specs.Sound.{Sound};
 ghost use Rattle.codes.specs.Write.{Known, WritesOn, Writes};
 ghost use Rattle.codes.specs.Find.{Lent, FoundIn};
+use claimfile::DAYS;
 use claimfile::Form;
 use claimfile::Layout;
 use claimfile::Reading;
@@ -52,10 +53,11 @@ fn close(file: &[u8], layout: Layout, codes: &mut [u8], scratch: &mut [u32])
     clear(scratch);
 }
 
-// Writes the codes of an accepted file: 8 where a buffer is too short, else the codes and a cleared scratch.
+// Writes the codes of an accepted file: 8 where a buffer is too short, 12 where the week does not have the day, else the codes and a cleared
+// scratch.
 pub fn write_codes_on(file: &[u8], layout: Layout, codes: &mut [u8], scratch: &mut [u32]) -> Written
     requires { ⌜ Sound (now file) layout ⌝ }
-    ensures { λ r. ⌜ WritesOn (instanceOf (now (file .entry)) layout) (now (codes .entry)) (now (scratch .entry)) (now (codes .exit)) (now (scratch .exit)) r ⌝ }
+    ensures { λ r. ⌜ WritesOn (instanceOf (now (file .entry)) layout) (layout .day) (now (codes .entry)) (now (scratch .entry)) (now (codes .exit)) (now (scratch .exit)) r ⌝ }
 {
     let rows = layout.rows;
     let cells = 8 * marks_of(layout);
@@ -64,6 +66,9 @@ pub fn write_codes_on(file: &[u8], layout: Layout, codes: &mut [u8], scratch: &m
     }
     if scratch.len() < cells {
         return Written::Refused(Reason::Short);
+    }
+    if DAYS <= layout.day {
+        return Written::Refused(Reason::Day);
     }
     close(file, layout, &mut codes[..rows], &mut scratch[..cells]);
     Written::Bytes(rows)

@@ -55,9 +55,9 @@ fn run(file: &[u8]) {
     show(file, &mut choice, &mut sheet, &mut scratch, &mut text);
 }
 
-// The longest file has 4,614 bytes; one more is read, so that a byte too many is seen.
+// The longest file has 10,758 bytes; one more is read, so that a byte too many is seen.
 pub fn settle_stdin() {
-    let mut file = [0u8; 4615];
+    let mut file = [0u8; 10759];
     let length = io::read_full(STDIN_FILENO, &mut file);
     run(&file[..length]);
 }

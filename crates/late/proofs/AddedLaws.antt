@@ -22,13 +22,14 @@ use Rattle.claimfile.specs.declared.Claim.{Claim}
 use Rattle.claimfile.specs.declared.Reading.the-variants.{Accepted}
 use Rattle.claimfile.specs.File.{claimWidth, claimAt, reading}
 use Rattle.claimfile.specs.Sections.{OwnBytes}
-use Rattle.claimfile.specs.Day.{claims, claimOf, instanceOf}
+use Rattle.claimfile.specs.Day.{countOf, groupOf, claims, claimOf, instanceOf}
 use Rattle.claimfile.specs.Sound.{Sound}
 use Rattle.claimfile.specs.Written.{bytesOf}
 use Rattle.claimfile.specs.Put.{Holds, rowCountPlace, claimPlace}
 use Rattle.claimfile.proofs.AcceptedLaws.{accepted-sound}
 use Rattle.claimfile.proofs.PutLaws.{same-cell, holds-self, holds-first, holds-second, Bytes, bytes-append, bytes-word}
-use Rattle.claimfile.proofs.ClaimsLaws.{rows-past, rows-end, claims-accepted, same-parent, same-limit, same-card, same-shop}
+use Rattle.claimfile.proofs.SameLaws.{same-parent, same-limit, same-card, same-shop}
+use Rattle.claimfile.proofs.ClaimsLaws.{rows-past, rows-end, same-group, claims-accepted}
 use Rattle.duality.specs.Late.{Longer}
 use Rattle.late.specs.Added.{raisedCount, lastRecord, withClaim, oneMore, Names}
 
@@ -139,15 +140,18 @@ module _ (f : Form) (s : List ℕ) (l : Layout) (claim : Claim) (is : reading f 
           ∙ same-cell t (l .«row_at» + (claimWidth * l .rows + k)) (claimPlace l (l .rows) + k) (omega arith)
           ∙ added k h
 
+  groups : (side g : ℕ) → g < countOf l side → groupOf s l side g ≡ groupOf t (oneMore l) side g
+  groups = same-group f s l is t same-front (l .rows + 1)
+
   pub added-longer : Longer (instanceOf s l) (instanceOf t (oneMore l))
   added-longer = record {
     cards = refl;
     groups = refl;
     rows = refl;
-    parent = same-parent f s l is t same-front (l .rows + 1);
-    card = λ c h. same-card f s l is t same-front (l .rows + 1) c h (old-claim c h);
-    shop = λ c h. same-shop f s l is t same-front (l .rows + 1) c h (old-claim c h);
-    limits = same-limit f s l is t same-front (l .rows + 1);
+    parent = λ v h. ap (λ (p : ℕ → ℕ). p v) (same-parent s l t _ _ _ _ _ _ groups);
+    card = λ c h. same-card s l t _ _ _ _ _ _ groups c (old-claim c h);
+    shop = λ c h. same-shop s l t _ _ _ _ _ _ groups c (old-claim c h);
+    limits = λ v h. ap (λ (p : ℕ → ℕ). p v) (same-limit s l t _ _ _ _ _ _ groups);
     kinds = λ c h. ap (λ (x : Claim). x .kind) (old-claim c h);
   }
 

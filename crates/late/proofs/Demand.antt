@@ -6,7 +6,7 @@
 --   late-claim             the file with the claim is accepted, and so the counts of the best choices move
 --   late-kept              the same of the kept choices in document 01's words
 --   late-keeps             with as many earned rows as before, no row is lost
---   late-closes            settle closes the file with the claim, where the lent buffers are long enough for it
+--   late-closes            settle closes the file with the claim, where the lent buffers are long enough for it and the week has the day
 --   late-settled           and so the counts move that settle answers for the two files, whatever the lent memory held
 use mathlib.Core.Path.{_≡_, ap}
 use mathlib.Core.Logic.{_≢_}
@@ -25,7 +25,7 @@ use Rattle.claimfile.specs.declared.Form.{Form}
 use Rattle.claimfile.specs.declared.Layout.{Layout}
 use Rattle.claimfile.specs.declared.Claim.{Claim}
 use Rattle.claimfile.specs.declared.Reading.the-variants.{Accepted}
-use Rattle.claimfile.specs.File.{reading}
+use Rattle.claimfile.specs.File.{days, reading}
 use Rattle.claimfile.specs.Day.{kindOf, limitOf, networkOf, instanceOf}
 use Rattle.claimfile.specs.Sound.{Sound}
 use Rattle.claimfile.proofs.AcceptedLaws.{accepted-sound}
@@ -67,7 +67,7 @@ module _ (f : Form) (s : List ℕ) (l : Layout) (is : reading f s ≡ Accepted l
       (ch sheet t ch′ sheet′ t′ : List ℕ) (r : Settled) (a : Totals) → Settles f s ch sheet t ch′ sheet′ t′ r → r ≡ Closed a →
       (a .earned ≡ earnedIn (instanceOf s l)) × (a .kept ≡ keptIn (instanceOf s l))
   answered ch sheet t ch′ sheet′ t′ r a S closed =
-      let C = closed-on (instanceOf s l) ch sheet t ch′ sheet′ t′ r a (S .settled l is) closed .1 in (
+      let C = closed-on (instanceOf s l) (l .day) ch sheet t ch′ sheet′ t′ r a (S .settled l is) closed .2 in (
         best-earned (instanceOf s l) ch sheet t ch′ sheet′ t′ a C,
         best-rows (instanceOf s l) ch sheet t ch′ sheet′ t′ a C,
       )
@@ -110,9 +110,9 @@ module _
     module _
         (ch₁ sheet₁ t₁ ch₁′ sheet₁′ t₁′ : List ℕ) (r₁ : Settled) (S₁ : Settles f new ch₁ sheet₁ t₁ ch₁′ sheet₁′ t₁′ r₁)
       where
-        pub late-closes : Enough (networkOf new (oneMore l)) ch₁ sheet₁ t₁ → (b : Totals) × (r₁ ≡ Closed b)
-        late-closes enough =
-            let closed = S₁ .settled (oneMore l) (late-claim .accepted) .closed enough in
+        pub late-closes : Enough (networkOf new (oneMore l)) ch₁ sheet₁ t₁ → l .day < days → (b : Totals) × (r₁ ≡ Closed b)
+        late-closes enough known =
+            let closed = S₁ .settled (oneMore l) (late-claim .accepted) .closed enough known in
             (closed .0, closed .1)
 
         pub late-settled :

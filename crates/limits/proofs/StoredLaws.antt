@@ -6,22 +6,23 @@
 use mathlib.Core.Path.{_≡_, ap, sym, _∙_}
 use mathlib.Core.List.{List}
 use Prim.Native.Nat.{ℕ}
-use Rattle.claimfile.specs.File.{newFile, storedFile, reading}
+use Rattle.claimfile.specs.File.{asStored, reading}
+use Rattle.claimfile.specs.declared.Form.{Form}
 use Rattle.claimfile.specs.declared.Layout.{Layout}
 use Rattle.claimfile.specs.declared.Reading.the-variants.{Accepted}
 use Rattle.claimfile.proofs.StoredLaws.{new-stored}
 use Rattle.limits.specs.Answers.{entered, rankedBy, ranked, spareBy, spare}
 use Rattle.limits.proofs.EntryLaws.{entered-by}
 
-module _ (s sel : List ℕ) (l : Layout) (new : reading newFile s ≡ Accepted l) where
-  pub entered-same : entered storedFile s sel ≡ entered newFile s sel
+module _ (f : Form) (s sel : List ℕ) (l : Layout) (is : reading f s ≡ Accepted l) where
+  pub entered-same : entered (asStored f) s sel ≡ entered f s sel
   entered-same =
-      entered-by storedFile s sel (Accepted l) (new-stored s l new) ∙ sym (entered-by newFile s sel (Accepted l) new)
+      entered-by (asStored f) s sel (Accepted l) (new-stored f s l is) ∙ sym (entered-by f s sel (Accepted l) is)
 
-  pub ranked-same : (side : ℕ) → ranked storedFile s sel side ≡ ranked newFile s sel side
+  pub ranked-same : (side : ℕ) → ranked (asStored f) s sel side ≡ ranked f s sel side
   unfolding ranked
   ranked-same side = ap (rankedBy s sel side) entered-same
 
-  pub spare-same : (x : ℕ) → spare storedFile s sel x ≡ spare newFile s sel x
+  pub spare-same : (x : ℕ) → spare (asStored f) s sel x ≡ spare f s sel x
   unfolding spare
   spare-same x = ap (spareBy s sel x) entered-same

@@ -9,7 +9,7 @@
 --   SparesOn i sel x n     n is how many further claims like row x would fit beside the selection, and what that means
 -- Of a file, in the form f:
 --   bits n sel             whether each of the first n bytes of a selection is 0 or 1
---   enteredBy sel reading, entered f s sel  a file with a selection: turned away with the file's refusal, then 8, then 9, else
+--   enteredBy sel reading, entered f s sel  a file with a selection: turned away with the file's refusal, then 8, then 12, then 9, else
 --                          the file's layout
 --   rankedBy s sel side entry, ranked f s sel side   the answer of fits and rank
 --   spareBy s sel x entry, spare f s sel x           the answer of spare places
@@ -21,7 +21,7 @@
 --   Spared f s sel x r     the same of spare places: at most 65535, the row is not in the selection, and the number means what
 --                          `Spares` says
 -- "Then 7, 8, 9": 8 for a selection that is shorter than needed; 9 for a selection byte over 1, a side over 1, a row not below N. Then 10,
--- the row is already in the selection.
+-- the row is already in the selection. Document 02, E9: "12, the day is over 6, judged after 8 and before 9."
 use Prim.Native.Nat.{ℕ, _≤_}
 use mathlib.Core.Path.{_≡_}
 use mathlib.Core.List.{List}
@@ -36,13 +36,13 @@ use Rattle.theory.specs.Matroid.{Matroid, Rank, row}
 use Rattle.theory.specs.Search.{rank}
 use Rattle.theory.specs.Network.{Instance, onSide, Independent}
 use Rattle.theory.specs.Spare.{sparePlaces, Spares}
-use Rattle.claimfile.specs.File.{reading}
+use Rattle.claimfile.specs.File.{days, reading}
 use Rattle.claimfile.specs.Day.{limitOf, networkOf, instanceOf}
 use Rattle.claimfile.specs.declared.Form.{Form}
 use Rattle.claimfile.specs.declared.Layout.{Layout}
 use Rattle.claimfile.specs.declared.Reading.{Reading}
 use Rattle.claimfile.specs.declared.Reading.the-variants as reading-is
-use Rattle.refusal.specs.declared.Reason.the-variants.{File, Short, Value, Selected}
+use Rattle.refusal.specs.declared.Reason.the-variants.{File, Short, Day, Value, Selected}
 use Rattle.refusal.specs.Table.{numberOf}
 use Rattle.limits.specs.declared.Found.{Found}
 use Rattle.limits.specs.declared.Entry.{Entry}
@@ -86,7 +86,9 @@ bits n sel = every n (λ c. leb (row sel c) 1)
 abbrev pub enteredBy : List ℕ → Reading → Entry
 enteredBy sel (reading-is.Refused why) = Turned (File why)
 enteredBy sel (reading-is.Accepted l) =
-    pick (ltb (length sel) (l .rows)) (Turned Short) (pick (bits (l .rows) sel) (Entered l) (Turned Value))
+    pick (ltb (length sel) (l .rows))
+    (Turned Short)
+    (pick (leb days (l .day)) (Turned Day) (pick (bits (l .rows) sel) (Entered l) (Turned Value)))
 
 unfoldable pub entered : Form → List ℕ → List ℕ → Entry
 entered f s sel = enteredBy sel (reading f s)

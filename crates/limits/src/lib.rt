@@ -21,6 +21,7 @@ ghost use Rattle.limits.specs.Answers.{bits, enteredBy, entered, Finds, 
 ghost use Rattle.limits.specs.Ready.{Ready};
 ghost use Rattle.limits.specs.Side.{parentBy, hangs, Zero, Counted, Passes, PassedOn, Begun, Rose, Placed};
 ghost use Rattle.limits.specs.Chain.{Ups, Climbed, Chained};
+use claimfile::DAYS;
 use claimfile::Form;
 use claimfile::Layout;
 use claimfile::Reading;
@@ -281,6 +282,9 @@ fn judge(layout: Layout, selection: &[u8]) -> Entry
     let rows = layout.rows;
     if selection.len() < rows {
         return Entry::Turned(Reason::Short);
+    }
+    if DAYS <= layout.day {
+        return Entry::Turned(Reason::Day);
     }
     if all_bits(selection, rows) {
         return Entry::Entered(layout);

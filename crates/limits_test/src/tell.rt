@@ -28,13 +28,31 @@ fn ranked_answer(answer: Ranked) {
 // The name and the answer of fits and rank.
 pub fn ranked(name: &[u8], file: &[u8], selection: &[u8], side: usize) {
     text(name);
-    ranked_answer(fits_and_rank(file, Form { stored: false }, selection, side));
+    ranked_answer(fits_and_rank(
+        file,
+        Form {
+            week: false,
+            stored: false,
+            day: 0,
+        },
+        selection,
+        side,
+    ));
 }
 
 // The same for a stored file.
 pub fn ranked_stored(name: &[u8], file: &[u8], selection: &[u8], side: usize) {
     text(name);
-    ranked_answer(fits_and_rank(file, Form { stored: true }, selection, side));
+    ranked_answer(fits_and_rank(
+        file,
+        Form {
+            week: false,
+            stored: true,
+            day: 0,
+        },
+        selection,
+        side,
+    ));
 }
 
 // Both answers, for a name that is written already.
@@ -59,13 +77,31 @@ fn spare_answer(answer: Spare) {
 // The name and the answer of spare places.
 pub fn spare(name: &[u8], file: &[u8], selection: &[u8], row: usize) {
     text(name);
-    spare_answer(spare_places(file, Form { stored: false }, selection, row));
+    spare_answer(spare_places(
+        file,
+        Form {
+            week: false,
+            stored: false,
+            day: 0,
+        },
+        selection,
+        row,
+    ));
 }
 
 // The same for a stored file.
 pub fn spare_stored(name: &[u8], file: &[u8], selection: &[u8], row: usize) {
     text(name);
-    spare_answer(spare_places(file, Form { stored: true }, selection, row));
+    spare_answer(spare_places(
+        file,
+        Form {
+            week: false,
+            stored: true,
+            day: 0,
+        },
+        selection,
+        row,
+    ));
 }
 
 // Both answers, for a name that is written already.

@@ -20,7 +20,7 @@ use Rattle.theory.proofs.ChoiceLaws.{choice-is}
 use Rattle.claimfile.specs.declared.Layout.{Layout}
 use Rattle.claimfile.specs.declared.Refusal.{Refusal}
 use Rattle.claimfile.specs.declared.Reading.the-variants.{Accepted, Refused}
-use Rattle.claimfile.specs.File.{newFile, reading}
+use Rattle.claimfile.specs.File.{newWeek, reading}
 use Rattle.claimfile.specs.Day.{networkOf, instanceOf}
 use Rattle.claimfile.proofs.AcceptedLaws.{accepted-sound}
 use Rattle.refusal.specs.declared.Reason.{Reason}
@@ -80,15 +80,15 @@ module _
     (long : longestText ≤ length out)
   where
     pub refused-whole :
-        (why : Refusal) → reading newFile s ≡ Refused why → Whole (refusedText (numberOf (File why))) out out′ n
+        (why : Refusal) → reading (newWeek 0) s ≡ Refused why → Whole (refusedText (numberOf (File why))) out out′ n
     refused-whole why is = whole (omega (arith, refusal-fits (File why))) (P .refused why is .0)
 
-    module _ (l : Layout) (is : reading newFile s ≡ Accepted l) where
+    module _ (l : Layout) (is : reading (newWeek 0) s ≡ Accepted l) where
       pub short-whole : Lacks (networkOf s l) ch sheet t → Whole (refusedText (numberOf Short)) out out′ n
       short-whole lacks = whole (omega (arith, refusal-fits Short)) (P .printed l is .short lacks .0)
 
       pub printed-whole : Enough (networkOf s l) ch sheet t → Whole (dayText (instanceOf s l)) out out′ n
       printed-whole enough =
-          let sound = accepted-sound newFile s l is in
+          let sound = accepted-sound (newWeek 0) s l is in
           whole (omega (arith, day-fits (instanceOf s l) (sound .rows-most) (kinds-two s l sound)))
           (P .printed l is .closed enough .0)

@@ -1,4 +1,6 @@
-// What `settle` prints for a new claim file, written into a lent buffer.
+// What `settle` prints for a new claim file in the week layout, by the limits of day 0, written into a lent buffer.
+ghost use Prim.Native.Nat.{_<_};
+ghost use Rattle.claimfile.specs.File.{days};
 ghost use Rattle.claimfile.specs.Day.{instanceOf};
 ghost use Rattle.claimfile.specs.Sound.{Sound};
 ghost use Rattle.printout.specs.Printout.{PrintsOn, Prints};
@@ -23,7 +25,7 @@ pub fn print_on(
     scratch: &mut [u32],
     out: &mut [u8],
 ) -> usize
-    requires { ⌜ Sound (now file) layout ⌝ }
+    requires { ⌜ (Sound (now file) layout) × (layout .day < days) ⌝ }
     ensures { λ r. ⌜ PrintsOn (instanceOf (now (file .entry)) layout) (now (choice .entry)) (now (sheet .entry)) (now (scratch .entry)) (now (out .entry)) (now (choice .exit)) (now (sheet .exit)) (now (scratch .exit)) (now (out .exit)) r ⌝ }
 {
     let settled = settle_on(file, layout, choice, sheet, scratch);
@@ -51,7 +53,12 @@ pub fn print_day(
 ) -> usize
     ensures { λ r. ⌜ Prints (now (file .entry)) (now (choice .entry)) (now (sheet .entry)) (now (scratch .entry)) (now (out .entry)) (now (choice .exit)) (now (sheet .exit)) (now (scratch .exit)) (now (out .exit)) r ⌝ }
 {
-    let reading = read(file, Form { stored: false });
+    let form = Form {
+        week: true,
+        stored: false,
+        day: 0,
+    };
+    let reading = read(file, form);
     match reading {
         Reading::Refused(why) => write_refused(number(Reason::File(why)), out),
         Reading::Accepted(layout) => print_on(file, layout, choice, sheet, scratch, out),

@@ -19,7 +19,14 @@ fn text_of(
 ) -> usize
     ensures { λ r. ⌜ Counts r (now (out .exit)) ⌝ }
 {
-    let reading = read(file, Form { stored: false });
+    let reading = read(
+        file,
+        Form {
+            week: false,
+            stored: false,
+            day: 0,
+        },
+    );
     let Reading::Accepted(layout) = reading else {
         return 0;
     };

@@ -16,6 +16,7 @@ use mathlib.Core.List.{List, []}
 use Prim.Native.Nat.{ℕ, _+_, _*_, _≤_, _<_}
 use native.Mathlib.Omega.{arith}
 use lib.ListN.{getD}
+use Rattle.theory.specs.Sum.{every}
 use Rattle.theory.specs.Matroid.{row}
 use Rattle.theory.specs.Network.{Instance}
 use Rattle.theory.proofs.SumLaws.{sum-cong, sum-zero}
@@ -23,7 +24,7 @@ use Rattle.claimfile.specs.declared.Layout.{Layout}
 use Rattle.claimfile.specs.declared.Reading.{Reading}
 use Rattle.claimfile.specs.declared.Reading.the-variants.{Accepted, Refused}
 use Rattle.claimfile.specs.declared.Refusal.the-variants.{CutOff}
-use Rattle.claimfile.specs.File.{newFile, groupFault, claimFault, recordsFrom, countFault, sectionAt, claimsAt, reading}
+use Rattle.claimfile.specs.File.{newOld, noneAbove, groupFault, claimFault, recordsFrom, countFault, sectionAt, claimsAt, reading}
 use Rattle.claimfile.specs.Day.{instanceOf}
 use Rattle.claimfile.proofs.AcceptedLaws.{accepted-sound}
 use Rattle.closing.specs.declared.Totals.{Totals}
@@ -92,14 +93,14 @@ zero-total i ch sheet t ch′ sheet′ t′ a C zero =
 -- Day A
 
 module _
-    (l : Layout) (is : reading newFile (dayOf 0 .file) ≡ Accepted l) (ch sheet t ch′ sheet′ t′ : List ℕ) (a : Totals)
+    (l : Layout) (is : reading (newOld 0) (dayOf 0 .file) ≡ Accepted l) (ch sheet t ch′ sheet′ t′ : List ℕ) (a : Totals)
     (C : Closes (instanceOf (dayOf 0 .file) l) ch sheet t ch′ sheet′ t′ a)
   where
     stated-a : AsStated (dayOf 0) (l .rows) ch′ a
     stated-a = as-stated (dayOf 0) (ap (λ x. getD x 0 (refused CutOff)) days-hold) l is ch sheet t ch′ sheet′ t′ a C
 
     rows-a : 3 ≡ l .rows
-    unfolding groupFault claimFault recordsFrom countFault sectionAt claimsAt reading
+    unfolding noneAbove every groupFault claimFault recordsFrom countFault sectionAt claimsAt reading
     rows-a = ap rowsIn is
 
     pub kept-a : (row ch′ 0 ≡ 1) × (row ch′ 1 ≡ 1) × (row ch′ 2 ≡ 0)
@@ -114,7 +115,7 @@ module _
 
     pub total-a : a .total ≡ 5
     total-a =
-        let sound = accepted-sound newFile (dayOf 0 .file) l is in
+        let sound = accepted-sound (newOld 0) (dayOf 0 .file) l is in
         let i = instanceOf (dayOf 0 .file) l in
         omega (
           arith,
@@ -135,14 +136,14 @@ module _
 -- Day A with all rows ordinary
 
 module _
-    (l : Layout) (is : reading newFile (dayOf 6 .file) ≡ Accepted l) (ch sheet t ch′ sheet′ t′ : List ℕ) (a : Totals)
+    (l : Layout) (is : reading (newOld 0) (dayOf 6 .file) ≡ Accepted l) (ch sheet t ch′ sheet′ t′ : List ℕ) (a : Totals)
     (C : Closes (instanceOf (dayOf 6 .file) l) ch sheet t ch′ sheet′ t′ a)
   where
     stated-o : AsStated (dayOf 6) (l .rows) ch′ a
     stated-o = as-stated (dayOf 6) (ap (λ x. getD x 6 (refused CutOff)) days-hold) l is ch sheet t ch′ sheet′ t′ a C
 
     rows-o : 3 ≡ l .rows
-    unfolding groupFault claimFault recordsFrom countFault sectionAt claimsAt reading
+    unfolding noneAbove every groupFault claimFault recordsFrom countFault sectionAt claimsAt reading
     rows-o = ap rowsIn is
 
     pub given-up : (row ch′ 0 ≡ 0) × (row ch′ 1 ≡ 1) × (row ch′ 2 ≡ 1)

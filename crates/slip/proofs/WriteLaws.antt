@@ -1,5 +1,5 @@
 -- Laws of what is answered and left.
---   on-few on-short on-value on-written    the outcome for an accepted file, one law a case
+--   on-few on-short on-day on-value on-written    the outcome for an accepted file, one law a case
 --   slips-refused slips-accepted           the outcome for a file, by its reading
 --   slips-same                             both calls answer and leave the same for every new file
 use mathlib.Core.Path.{_≡_, refl, sym, ap, _∙_}
@@ -7,7 +7,7 @@ use mathlib.Core.Bool.{true, false}
 use mathlib.Core.List.{List, _++_}
 use Prim.Native.Nat.{ℕ, _+_, _≤_, _<_}
 use native.Mathlib.Omega.{arith}
-use borrow.Author.Tests.{lt-ltb, le-ltb}
+use borrow.Author.Tests.{lt-ltb, le-ltb, lt-leb, le-leb}
 use lib.ListN.{length, drop}
 use lib.Seq.{sets-eq}
 use Rattle.text.specs.Buffer.{Appended}
@@ -16,11 +16,11 @@ use Rattle.claimfile.specs.declared.Layout.{Layout}
 use Rattle.claimfile.specs.declared.Refusal.{Refusal}
 use Rattle.claimfile.specs.declared.Reading.{Reading}
 use Rattle.claimfile.specs.declared.Reading.the-variants as reading-is
-use Rattle.claimfile.specs.File.{newFile, storedFile, reading}
+use Rattle.claimfile.specs.File.{days, asStored, reading}
 use Rattle.claimfile.specs.Sound.{Sound}
 use Rattle.claimfile.proofs.StoredLaws.{new-stored}
 use Rattle.refusal.specs.declared.Reason.{Reason}
-use Rattle.refusal.specs.declared.Reason.the-variants.{File, Short, Value}
+use Rattle.refusal.specs.declared.Reason.the-variants.{File, Short, Day, Value}
 use Rattle.refusal.specs.declared.Written.{Written}
 use Rattle.refusal.specs.declared.Written.the-variants.{Bytes, Refused}
 use Rattle.refusal.specs.Writing.{turned, written}
@@ -50,28 +50,36 @@ module _ (s : List ℕ) (l : Layout) (sel out : List ℕ) where
     on-short h = away Short (short h)
 
     module _ (wide : needed l sel ≤ length out) where
-      value : bits (l .rows) sel ≡ false → outcomeOn s l sel out ≡ turned Value out
+      over : days ≤ l .day → outcomeOn s l sel out ≡ turned Day out
       unfolding outcomeOn
-      value e = rw (le-ltb _ _ long, le-ltb _ _ wide, e)
+      over d = rw (le-ltb _ _ long, le-ltb _ _ wide, le-leb _ _ d)
 
-      pub on-value : bits (l .rows) sel ≡ false → WritesOn s l sel out out (Refused Value)
-      on-value e = away Value (value e)
+      pub on-day : days ≤ l .day → WritesOn s l sel out out (Refused Day)
+      on-day d = away Day (over d)
 
-      -- the slip was put at the buffer's start
-      module _ (e : bits (l .rows) sel ≡ true) (sound : Sound s l) (out′ : List ℕ) (n : ℕ)
-          (put : Appended out out′ 0 n (slip s l sel)) where
-        whole : outcomeOn s l sel out ≡ written (slip s l sel) out
+      module _ (known : l .day < days) where
+        value : bits (l .rows) sel ≡ false → outcomeOn s l sel out ≡ turned Value out
         unfolding outcomeOn
-        whole = rw (le-ltb _ _ long, le-ltb _ _ wide, e)
+        value e = rw (le-ltb _ _ long, le-ltb _ _ wide, lt-leb _ _ known, e)
 
-        pub on-written : WritesOn s l sel out out′ (Bytes n)
-        on-written =
-            let at : n ≡ length (slip s l sel) = omega (arith, put .end) in
-            let from : 0 + length (slip s l sel) ≡ length (slip s l sel) = omega arith in
-            leaves-is (outcomeOn s l sel out) (written (slip s l sel) out) whole out′ (Bytes n) (ap Bytes at)
-            (put .cells
-            ∙ sets-eq (slip s l sel) out 0 (omega (arith, slip-length s l sound sel))
-            ∙ ap (λ (k : ℕ). slip s l sel ++ drop k out) from)
+        pub on-value : bits (l .rows) sel ≡ false → WritesOn s l sel out out (Refused Value)
+        on-value e = away Value (value e)
+
+        -- the slip was put at the buffer's start
+        module _ (e : bits (l .rows) sel ≡ true) (sound : Sound s l) (out′ : List ℕ) (n : ℕ)
+            (put : Appended out out′ 0 n (slip s l sel)) where
+          whole : outcomeOn s l sel out ≡ written (slip s l sel) out
+          unfolding outcomeOn
+          whole = rw (le-ltb _ _ long, le-ltb _ _ wide, lt-leb _ _ known, e)
+
+          pub on-written : WritesOn s l sel out out′ (Bytes n)
+          on-written =
+              let at : n ≡ length (slip s l sel) = omega (arith, put .end) in
+              let from : 0 + length (slip s l sel) ≡ length (slip s l sel) = omega arith in
+              leaves-is (outcomeOn s l sel out) (written (slip s l sel) out) whole out′ (Bytes n) (ap Bytes at)
+              (put .cells
+              ∙ sets-eq (slip s l sel) out 0 (omega (arith, slip-length s l sound sel))
+              ∙ ap (λ (k : ℕ). slip s l sel ++ drop k out) from)
 
 --------------------------------------------------------------------------------
 -- The file
@@ -93,8 +101,8 @@ module _ (f : Form) (s sel out : List ℕ) where
 
 -- both calls answer and leave the same for every new file
 pub slips-same :
-    (s sel out : List ℕ) (l : Layout) → reading newFile s ≡ reading-is.Accepted l →
-    outcome storedFile s sel out ≡ outcome newFile s sel out
-slips-same s sel out l new =
-    by storedFile s sel out (reading-is.Accepted l) (new-stored s l new)
-    ∙ sym (by newFile s sel out (reading-is.Accepted l) new)
+    (f : Form) (s sel out : List ℕ) (l : Layout) → reading f s ≡ reading-is.Accepted l →
+    outcome (asStored f) s sel out ≡ outcome f s sel out
+slips-same f s sel out l is =
+    by (asStored f) s sel out (reading-is.Accepted l) (new-stored f s l is)
+    ∙ sym (by f s sel out (reading-is.Accepted l) is)

@@ -5,19 +5,19 @@ use mathlib.Core.List.{[], _∷_}
 use Rattle.theory.specs.Sum.{sum}
 use Rattle.text.specs.Text.{ascii, digitsBy, decimal, blanks}
 use Rattle.claimfile.specs.declared.Layout.{Layout}
-use Rattle.refusal.specs.Examples.{dayA}
+use Rattle.refusal.specs.Examples.{weekA}
 use Rattle.slip.specs.Slip.{count, firstLine, rowLine, keptLine, keptLines, slip}
 
 abbrev layoutA : Layout
-layoutA = record { cards = 2; shops = 2; rows = 3; «card_at» = 2; «shop_at» = 12; «row_at» = 22 }
+layoutA = record { week = true; day = 0; cards = 2; shops = 2; rows = 3; «card_at» = 2; «shop_at» = 36; «row_at» = 70 }
 
 -- day A with row 0 kept
-slipA : slip dayA layoutA (1 ∷ 0 ∷ 0 ∷ []) ≡ ascii "CLAIMS    3EARNED    1KEPT     1\n       0       0       0  EARNED\n"
+slipA : slip weekA layoutA (1 ∷ 0 ∷ 0 ∷ []) ≡ ascii "CLAIMS    3EARNED    1KEPT     1\n       0       0       0  EARNED\n"
 unfolding slip firstLine keptLines keptLine rowLine count sum decimal digitsBy blanks
 slipA = refl
 
 -- day A with all rows kept
-slipAll : slip dayA layoutA (1 ∷ 1 ∷ 1 ∷ [])
+slipAll : slip weekA layoutA (1 ∷ 1 ∷ 1 ∷ [])
     ≡ ascii "CLAIMS    3EARNED    1KEPT     3\n       0       0       0  EARNED\n       1       0       1   PLAIN\n       2       1       0   PLAIN\n"
 unfolding slip firstLine keptLines keptLine rowLine count sum decimal digitsBy blanks
 slipAll = refl

@@ -1,8 +1,8 @@
--- What `write_slip` answers and leaves, for every file in either form, selection and buffer: document 02, E1 and E4.
+-- What `write_slip` answers and leaves, for every file in any form, selection and buffer: document 02, E1, E4 and E9.
 --   width                  how many bytes a line has, with its line feed
 --   needed l sel           how many bytes the slip has: a line for each kept row, and the first
 --   lacks l sel out        whether the selection or the buffer is too short
---   outcomeOn s l sel out  the outcome for an accepted file: 8, then 9, else the slip
+--   outcomeOn s l sel out  the outcome for an accepted file: 8, then 12, then 9, else the slip
 --   outcomeBy s sel out x  the outcome for a file s with the reading x: its own faults come first
 --   outcome f s sel out    the outcome for a file in the form f
 --   Covers s l sel         what the parts of writing ask: the file is sound, and the selection has a byte for each row
@@ -13,16 +13,16 @@ use Prim.Native.Nat.{ℕ, _+_, _*_, _≤_}
 use mathlib.Core.Bool.{Bool, true}
 use mathlib.Core.List.{List}
 use lib.ListN.{length}
-use lib.Dec.{ltb}
+use lib.Dec.{ltb, leb}
 use Rattle.theory.specs.Sum.{pick}
 use Rattle.claimfile.specs.declared.Form.{Form}
 use Rattle.claimfile.specs.declared.Layout.{Layout}
 use Rattle.claimfile.specs.declared.Reading.{Reading}
 use Rattle.claimfile.specs.declared.Reading.the-variants as reading-is
-use Rattle.claimfile.specs.File.{reading}
+use Rattle.claimfile.specs.File.{days, reading}
 use Rattle.claimfile.specs.Sound.{Sound}
 use Rattle.refusal.specs.declared.Written.{Written}
-use Rattle.refusal.specs.declared.Reason.the-variants.{File, Short, Value}
+use Rattle.refusal.specs.declared.Reason.the-variants.{File, Short, Day, Value}
 use Rattle.refusal.specs.Writing.{Outcome, turned, written, Leaves}
 use Rattle.limits.specs.Answers.{bits}
 use Rattle.slip.specs.Slip.{keptRows, slip}
@@ -40,7 +40,9 @@ unfoldable pub outcomeOn : List ℕ → Layout → List ℕ → List ℕ → Out
 outcomeOn s l sel out =
     pick (lacks l sel out)
     (turned Short out)
-    (pick (bits (l .rows) sel) (written (slip s l sel) out) (turned Value out))
+    (pick (leb days (l .day))
+    (turned Day out)
+    (pick (bits (l .rows) sel) (written (slip s l sel) out) (turned Value out)))
 
 abbrev pub outcomeBy : List ℕ → List ℕ → List ℕ → Reading → Outcome
 outcomeBy s sel out (reading-is.Refused why) = turned (File why) out

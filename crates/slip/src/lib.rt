@@ -12,6 +12,7 @@ ghost use Rattle.text.specs.Buffer.{Appended, Room};
 ghost use Rattle.claimfile.specs.Sound.{Sound};
 ghost use Rattle.slip.specs.Slip.{keptRows, earnedRows, firstLine, rowLine, keptLine, keptLines, slip};
 ghost use Rattle.slip.specs.Write.{Covers, WritesOn, Slips};
+use claimfile::DAYS;
 use claimfile::Form;
 use claimfile::Layout;
 use claimfile::Reading;
@@ -138,7 +139,8 @@ fn put_slip(file: &[u8], layout: Layout, kept: usize, selection: &[u8], out: &mu
     put_rows(file, layout, after_first, selection, out)
 }
 
-// Writes the slip of an accepted file: 8 where the selection or the buffer is too short, 9 where a byte of the selection is over 1.
+// Writes the slip of an accepted file: 8 where the selection or the buffer is too short, 12 where the week does not have the day, 9 where a
+// byte of the selection is over 1.
 pub fn slip_on(file: &[u8], layout: Layout, selection: &[u8], out: &mut [u8]) -> Written
     requires { ⌜ Sound (now file) layout ⌝ }
     ensures { λ r. ⌜ WritesOn (now (file .entry)) layout (now (selection .entry)) (now (out .entry)) (now (out .exit)) r ⌝ }
@@ -150,6 +152,9 @@ pub fn slip_on(file: &[u8], layout: Layout, selection: &[u8], out: &mut [u8]) ->
     let kept = kept_rows(rows, selection);
     if out.len() < WIDTH * (kept + 1) {
         return Written::Refused(Reason::Short);
+    }
+    if DAYS <= layout.day {
+        return Written::Refused(Reason::Day);
     }
     if !all_bits(selection, rows) {
         return Written::Refused(Reason::Value);

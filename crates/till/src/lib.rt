@@ -1,11 +1,12 @@
 // The calls for the till's own program, which is in C: c/claims.h declares them.
 //
 // A slice is passed as a pointer and a length. Each call on a file answers a struct of numbers by value. Only settle, the slip, the
-// canonical form and the codes change lent memory. A call takes a new file, and the one beside it, with `_stored` in its name, a stored file.
+// canonical form and the codes change lent memory. A call takes a new file in the week layout; of the three beside it the one with `_stored`
+// in its name takes a stored file, the one with `_old` a file in the old layout, and the one with both a stored file in the old layout.
 ghost use mathlib.Core.Path.{_≡_};
 ghost use Prim.Native.Nat.{_≤_};
 ghost use Rattle.theory.specs.Bounds.{maxRows, maxLimit};
-ghost use Rattle.claimfile.specs.File.{newFile, storedFile};
+ghost use Rattle.claimfile.specs.File.{newWeek, storedWeek, newOld, storedOld};
 ghost use Rattle.limits.specs.Answers as limits-answers;
 ghost use Rattle.slip.specs.Write as slip-write;
 ghost use Rattle.canonical.specs.Write as canonical-write;
@@ -27,7 +28,7 @@ use refusal::number;
 use slip::write_slip;
 
 // Which library this is. It rises by one with each change of a call, a needed length or an answer.
-pub const VERSION: u32 = 7;
+pub const VERSION: u32 = 8;
 
 // The refusal's number and zeros where the call is turned away; else 0, 1 where the selection fits and 0 where not, and its rank.
 #[repr(C)]
@@ -87,12 +88,22 @@ fn fits_and_rank_as(file: &[u8], form: Form, selection: &[u8], side: u32) -> Fit
     ranked_numbers(fits_and_rank(file, form, selection, side as usize))
 }
 
-// Whether a selection fits a side (0 card, 1 shop), and its rank there.
+// Whether a selection fits a side (0 card, 1 shop) by the limits of a day, and its rank there.
 #[no_mangle]
-pub extern "C" fn claims_fits_and_rank(file: &[u8], selection: &[u8], side: u32) -> FitsAndRank
-    ensures { λ r. ⌜ FitsAndRankIs newFile (now (file .entry)) (now (selection .entry)) side r ⌝ }
+pub extern "C" fn claims_fits_and_rank(
+    file: &[u8],
+    selection: &[u8],
+    side: u32,
+    day: u32,
+) -> FitsAndRank
+    ensures { λ r. ⌜ FitsAndRankIs (newWeek day) (now (file .entry)) (now (selection .entry)) side r ⌝ }
 {
-    fits_and_rank_as(file, Form { stored: false }, selection, side)
+    let form = Form {
+        week: true,
+        stored: false,
+        day: day as usize,
+    };
+    fits_and_rank_as(file, form, selection, side)
 }
 
 // The same for a stored file.
@@ -101,10 +112,52 @@ pub extern "C" fn claims_fits_and_rank_stored(
     file: &[u8],
     selection: &[u8],
     side: u32,
+    day: u32,
 ) -> FitsAndRank
-    ensures { λ r. ⌜ FitsAndRankIs storedFile (now (file .entry)) (now (selection .entry)) side r ⌝ }
+    ensures { λ r. ⌜ FitsAndRankIs (storedWeek day) (now (file .entry)) (now (selection .entry)) side r ⌝ }
 {
-    fits_and_rank_as(file, Form { stored: true }, selection, side)
+    let form = Form {
+        week: true,
+        stored: true,
+        day: day as usize,
+    };
+    fits_and_rank_as(file, form, selection, side)
+}
+
+// The same for a file in the old layout.
+#[no_mangle]
+pub extern "C" fn claims_fits_and_rank_old(
+    file: &[u8],
+    selection: &[u8],
+    side: u32,
+    day: u32,
+) -> FitsAndRank
+    ensures { λ r. ⌜ FitsAndRankIs (newOld day) (now (file .entry)) (now (selection .entry)) side r ⌝ }
+{
+    let form = Form {
+        week: false,
+        stored: false,
+        day: day as usize,
+    };
+    fits_and_rank_as(file, form, selection, side)
+}
+
+// The same for a stored file in the old layout.
+#[no_mangle]
+pub extern "C" fn claims_fits_and_rank_old_stored(
+    file: &[u8],
+    selection: &[u8],
+    side: u32,
+    day: u32,
+) -> FitsAndRank
+    ensures { λ r. ⌜ FitsAndRankIs (storedOld day) (now (file .entry)) (now (selection .entry)) side r ⌝ }
+{
+    let form = Form {
+        week: false,
+        stored: true,
+        day: day as usize,
+    };
+    fits_and_rank_as(file, form, selection, side)
 }
 
 // The numbers for an answer of spare places.
@@ -131,12 +184,22 @@ fn spare_places_as(file: &[u8], form: Form, selection: &[u8], row: u32) -> Spare
     spare_numbers(spare_places(file, form, selection, row as usize))
 }
 
-// How many further claims like the row would fit beside a selection that does not hold it.
+// How many further claims like the row would fit beside a selection that does not hold it, by the limits of a day.
 #[no_mangle]
-pub extern "C" fn claims_spare_places(file: &[u8], selection: &[u8], row: u32) -> SparePlacesAnswer
-    ensures { λ r. ⌜ SparePlacesIs newFile (now (file .entry)) (now (selection .entry)) row r ⌝ }
+pub extern "C" fn claims_spare_places(
+    file: &[u8],
+    selection: &[u8],
+    row: u32,
+    day: u32,
+) -> SparePlacesAnswer
+    ensures { λ r. ⌜ SparePlacesIs (newWeek day) (now (file .entry)) (now (selection .entry)) row r ⌝ }
 {
-    spare_places_as(file, Form { stored: false }, selection, row)
+    let form = Form {
+        week: true,
+        stored: false,
+        day: day as usize,
+    };
+    spare_places_as(file, form, selection, row)
 }
 
 // The same for a stored file.
@@ -145,10 +208,52 @@ pub extern "C" fn claims_spare_places_stored(
     file: &[u8],
     selection: &[u8],
     row: u32,
+    day: u32,
 ) -> SparePlacesAnswer
-    ensures { λ r. ⌜ SparePlacesIs storedFile (now (file .entry)) (now (selection .entry)) row r ⌝ }
+    ensures { λ r. ⌜ SparePlacesIs (storedWeek day) (now (file .entry)) (now (selection .entry)) row r ⌝ }
 {
-    spare_places_as(file, Form { stored: true }, selection, row)
+    let form = Form {
+        week: true,
+        stored: true,
+        day: day as usize,
+    };
+    spare_places_as(file, form, selection, row)
+}
+
+// The same for a file in the old layout.
+#[no_mangle]
+pub extern "C" fn claims_spare_places_old(
+    file: &[u8],
+    selection: &[u8],
+    row: u32,
+    day: u32,
+) -> SparePlacesAnswer
+    ensures { λ r. ⌜ SparePlacesIs (newOld day) (now (file .entry)) (now (selection .entry)) row r ⌝ }
+{
+    let form = Form {
+        week: false,
+        stored: false,
+        day: day as usize,
+    };
+    spare_places_as(file, form, selection, row)
+}
+
+// The same for a stored file in the old layout.
+#[no_mangle]
+pub extern "C" fn claims_spare_places_old_stored(
+    file: &[u8],
+    selection: &[u8],
+    row: u32,
+    day: u32,
+) -> SparePlacesAnswer
+    ensures { λ r. ⌜ SparePlacesIs (storedOld day) (now (file .entry)) (now (selection .entry)) row r ⌝ }
+{
+    let form = Form {
+        week: false,
+        stored: true,
+        day: day as usize,
+    };
+    spare_places_as(file, form, selection, row)
 }
 
 // The numbers for an answer of settle.
@@ -184,30 +289,80 @@ fn settle_as(
     settled_numbers(settle(file, form, choice, sheet, scratch))
 }
 
-// Settles a file: leaves the best choice and the marks, and clears the scratch.
+// Settles a file by the limits of a day: leaves the best choice and the marks, and clears the scratch.
 #[no_mangle]
 pub extern "C" fn claims_settle(
     file: &[u8],
+    day: u32,
     choice: &mut [u8],
     sheet: &mut [u32],
     scratch: &mut [u32],
 ) -> SettleAnswer
-    ensures { λ r. ⌜ SettleIs newFile (now (file .entry)) (now (choice .entry)) (now (sheet .entry)) (now (scratch .entry)) (now (choice .exit)) (now (sheet .exit)) (now (scratch .exit)) r ⌝ }
+    ensures { λ r. ⌜ SettleIs (newWeek day) (now (file .entry)) (now (choice .entry)) (now (sheet .entry)) (now (scratch .entry)) (now (choice .exit)) (now (sheet .exit)) (now (scratch .exit)) r ⌝ }
 {
-    settle_as(file, Form { stored: false }, choice, sheet, scratch)
+    let form = Form {
+        week: true,
+        stored: false,
+        day: day as usize,
+    };
+    settle_as(file, form, choice, sheet, scratch)
 }
 
 // The same for a stored file.
 #[no_mangle]
 pub extern "C" fn claims_settle_stored(
     file: &[u8],
+    day: u32,
     choice: &mut [u8],
     sheet: &mut [u32],
     scratch: &mut [u32],
 ) -> SettleAnswer
-    ensures { λ r. ⌜ SettleIs storedFile (now (file .entry)) (now (choice .entry)) (now (sheet .entry)) (now (scratch .entry)) (now (choice .exit)) (now (sheet .exit)) (now (scratch .exit)) r ⌝ }
+    ensures { λ r. ⌜ SettleIs (storedWeek day) (now (file .entry)) (now (choice .entry)) (now (sheet .entry)) (now (scratch .entry)) (now (choice .exit)) (now (sheet .exit)) (now (scratch .exit)) r ⌝ }
 {
-    settle_as(file, Form { stored: true }, choice, sheet, scratch)
+    let form = Form {
+        week: true,
+        stored: true,
+        day: day as usize,
+    };
+    settle_as(file, form, choice, sheet, scratch)
+}
+
+// The same for a file in the old layout.
+#[no_mangle]
+pub extern "C" fn claims_settle_old(
+    file: &[u8],
+    day: u32,
+    choice: &mut [u8],
+    sheet: &mut [u32],
+    scratch: &mut [u32],
+) -> SettleAnswer
+    ensures { λ r. ⌜ SettleIs (newOld day) (now (file .entry)) (now (choice .entry)) (now (sheet .entry)) (now (scratch .entry)) (now (choice .exit)) (now (sheet .exit)) (now (scratch .exit)) r ⌝ }
+{
+    let form = Form {
+        week: false,
+        stored: false,
+        day: day as usize,
+    };
+    settle_as(file, form, choice, sheet, scratch)
+}
+
+// The same for a stored file in the old layout.
+#[no_mangle]
+pub extern "C" fn claims_settle_old_stored(
+    file: &[u8],
+    day: u32,
+    choice: &mut [u8],
+    sheet: &mut [u32],
+    scratch: &mut [u32],
+) -> SettleAnswer
+    ensures { λ r. ⌜ SettleIs (storedOld day) (now (file .entry)) (now (choice .entry)) (now (sheet .entry)) (now (scratch .entry)) (now (choice .exit)) (now (sheet .exit)) (now (scratch .exit)) r ⌝ }
+{
+    let form = Form {
+        week: false,
+        stored: true,
+        day: day as usize,
+    };
+    settle_as(file, form, choice, sheet, scratch)
 }
 
 // The numbers for an answer of a call that writes.
@@ -235,10 +390,20 @@ fn write_slip_as(file: &[u8], form: Form, selection: &[u8], slip: &mut [u8]) -> 
 
 // Writes the slip of the rows that a selection keeps.
 #[no_mangle]
-pub extern "C" fn claims_write_slip(file: &[u8], selection: &[u8], slip: &mut [u8]) -> WriteAnswer
-    ensures { λ r. ⌜ WriteIs (slip-write.outcome newFile (now (file .entry)) (now (selection .entry)) (now (slip .entry))) (now (slip .exit)) r ⌝ }
+pub extern "C" fn claims_write_slip(
+    file: &[u8],
+    selection: &[u8],
+    day: u32,
+    slip: &mut [u8],
+) -> WriteAnswer
+    ensures { λ r. ⌜ WriteIs (slip-write.outcome (newWeek day) (now (file .entry)) (now (selection .entry)) (now (slip .entry))) (now (slip .exit)) r ⌝ }
 {
-    write_slip_as(file, Form { stored: false }, selection, slip)
+    let form = Form {
+        week: true,
+        stored: false,
+        day: day as usize,
+    };
+    write_slip_as(file, form, selection, slip)
 }
 
 // The same for a stored file.
@@ -246,11 +411,53 @@ pub extern "C" fn claims_write_slip(file: &[u8], selection: &[u8], slip: &mut [u
 pub extern "C" fn claims_write_slip_stored(
     file: &[u8],
     selection: &[u8],
+    day: u32,
     slip: &mut [u8],
 ) -> WriteAnswer
-    ensures { λ r. ⌜ WriteIs (slip-write.outcome storedFile (now (file .entry)) (now (selection .entry)) (now (slip .entry))) (now (slip .exit)) r ⌝ }
+    ensures { λ r. ⌜ WriteIs (slip-write.outcome (storedWeek day) (now (file .entry)) (now (selection .entry)) (now (slip .entry))) (now (slip .exit)) r ⌝ }
 {
-    write_slip_as(file, Form { stored: true }, selection, slip)
+    let form = Form {
+        week: true,
+        stored: true,
+        day: day as usize,
+    };
+    write_slip_as(file, form, selection, slip)
+}
+
+// The same for a file in the old layout.
+#[no_mangle]
+pub extern "C" fn claims_write_slip_old(
+    file: &[u8],
+    selection: &[u8],
+    day: u32,
+    slip: &mut [u8],
+) -> WriteAnswer
+    ensures { λ r. ⌜ WriteIs (slip-write.outcome (newOld day) (now (file .entry)) (now (selection .entry)) (now (slip .entry))) (now (slip .exit)) r ⌝ }
+{
+    let form = Form {
+        week: false,
+        stored: false,
+        day: day as usize,
+    };
+    write_slip_as(file, form, selection, slip)
+}
+
+// The same for a stored file in the old layout.
+#[no_mangle]
+pub extern "C" fn claims_write_slip_old_stored(
+    file: &[u8],
+    selection: &[u8],
+    day: u32,
+    slip: &mut [u8],
+) -> WriteAnswer
+    ensures { λ r. ⌜ WriteIs (slip-write.outcome (storedOld day) (now (file .entry)) (now (selection .entry)) (now (slip .entry))) (now (slip .exit)) r ⌝ }
+{
+    let form = Form {
+        week: false,
+        stored: true,
+        day: day as usize,
+    };
+    write_slip_as(file, form, selection, slip)
 }
 
 // The canonical form of a file in a form.
@@ -260,20 +467,59 @@ fn write_canonical_as(file: &[u8], form: Form, canonical: &mut [u8]) -> WriteAns
     written_numbers(write_canonical(file, form, canonical))
 }
 
-// Writes the canonical form of a file.
+// Writes the canonical form of a file, in the week layout.
 #[no_mangle]
 pub extern "C" fn claims_write_canonical(file: &[u8], canonical: &mut [u8]) -> WriteAnswer
-    ensures { λ r. ⌜ WriteIs (canonical-write.outcome newFile (now (file .entry)) (now (canonical .entry))) (now (canonical .exit)) r ⌝ }
+    ensures { λ r. ⌜ WriteIs (canonical-write.outcome (newWeek 0) (now (file .entry)) (now (canonical .entry))) (now (canonical .exit)) r ⌝ }
 {
-    write_canonical_as(file, Form { stored: false }, canonical)
+    let form = Form {
+        week: true,
+        stored: false,
+        day: 0,
+    };
+    write_canonical_as(file, form, canonical)
 }
 
 // The same for a stored file: its limits are written as lowered.
 #[no_mangle]
 pub extern "C" fn claims_write_canonical_stored(file: &[u8], canonical: &mut [u8]) -> WriteAnswer
-    ensures { λ r. ⌜ WriteIs (canonical-write.outcome storedFile (now (file .entry)) (now (canonical .entry))) (now (canonical .exit)) r ⌝ }
+    ensures { λ r. ⌜ WriteIs (canonical-write.outcome (storedWeek 0) (now (file .entry)) (now (canonical .entry))) (now (canonical .exit)) r ⌝ }
 {
-    write_canonical_as(file, Form { stored: true }, canonical)
+    let form = Form {
+        week: true,
+        stored: true,
+        day: 0,
+    };
+    write_canonical_as(file, form, canonical)
+}
+
+// The same for a file in the old layout.
+#[no_mangle]
+pub extern "C" fn claims_write_canonical_old(file: &[u8], canonical: &mut [u8]) -> WriteAnswer
+    ensures { λ r. ⌜ WriteIs (canonical-write.outcome (newOld 0) (now (file .entry)) (now (canonical .entry))) (now (canonical .exit)) r ⌝ }
+{
+    let form = Form {
+        week: false,
+        stored: false,
+        day: 0,
+    };
+    write_canonical_as(file, form, canonical)
+}
+
+// The same for a stored file in the old layout: its limits are written as lowered.
+#[no_mangle]
+pub extern "C" fn claims_write_canonical_old_stored(
+    file: &[u8],
+    canonical: &mut [u8],
+) -> WriteAnswer
+    ensures { λ r. ⌜ WriteIs (canonical-write.outcome (storedOld 0) (now (file .entry)) (now (canonical .entry))) (now (canonical .exit)) r ⌝ }
+{
+    let form = Form {
+        week: false,
+        stored: true,
+        day: 0,
+    };
+    write_canonical_as(file, form, canonical)
 }
 
 // The codes for a file in a form.
@@ -283,28 +529,76 @@ fn write_codes_as(file: &[u8], form: Form, codes: &mut [u8], scratch: &mut [u32]
     written_numbers(write_codes(file, form, codes, scratch))
 }
 
-// Writes the code of each row, which tells what holds an earned row, and clears the scratch.
+// Writes the code of each row, which tells what holds an earned row by the limits of a day, and clears the scratch.
 #[no_mangle]
 pub extern "C" fn claims_write_codes(
     file: &[u8],
+    day: u32,
     codes: &mut [u8],
     scratch: &mut [u32],
 ) -> WriteAnswer
-    ensures { λ r. ⌜ CodesAre newFile (now (file .entry)) (now (codes .entry)) (now (scratch .entry)) (now (codes .exit)) (now (scratch .exit)) r ⌝ }
+    ensures { λ r. ⌜ CodesAre (newWeek day) (now (file .entry)) (now (codes .entry)) (now (scratch .entry)) (now (codes .exit)) (now (scratch .exit)) r ⌝ }
 {
-    write_codes_as(file, Form { stored: false }, codes, scratch)
+    let form = Form {
+        week: true,
+        stored: false,
+        day: day as usize,
+    };
+    write_codes_as(file, form, codes, scratch)
 }
 
 // The same for a stored file.
 #[no_mangle]
 pub extern "C" fn claims_write_codes_stored(
     file: &[u8],
+    day: u32,
     codes: &mut [u8],
     scratch: &mut [u32],
 ) -> WriteAnswer
-    ensures { λ r. ⌜ CodesAre storedFile (now (file .entry)) (now (codes .entry)) (now (scratch .entry)) (now (codes .exit)) (now (scratch .exit)) r ⌝ }
+    ensures { λ r. ⌜ CodesAre (storedWeek day) (now (file .entry)) (now (codes .entry)) (now (scratch .entry)) (now (codes .exit)) (now (scratch .exit)) r ⌝ }
 {
-    write_codes_as(file, Form { stored: true }, codes, scratch)
+    let form = Form {
+        week: true,
+        stored: true,
+        day: day as usize,
+    };
+    write_codes_as(file, form, codes, scratch)
+}
+
+// The same for a file in the old layout.
+#[no_mangle]
+pub extern "C" fn claims_write_codes_old(
+    file: &[u8],
+    day: u32,
+    codes: &mut [u8],
+    scratch: &mut [u32],
+) -> WriteAnswer
+    ensures { λ r. ⌜ CodesAre (newOld day) (now (file .entry)) (now (codes .entry)) (now (scratch .entry)) (now (codes .exit)) (now (scratch .exit)) r ⌝ }
+{
+    let form = Form {
+        week: false,
+        stored: false,
+        day: day as usize,
+    };
+    write_codes_as(file, form, codes, scratch)
+}
+
+// The same for a stored file in the old layout.
+#[no_mangle]
+pub extern "C" fn claims_write_codes_old_stored(
+    file: &[u8],
+    day: u32,
+    codes: &mut [u8],
+    scratch: &mut [u32],
+) -> WriteAnswer
+    ensures { λ r. ⌜ CodesAre (storedOld day) (now (file .entry)) (now (codes .entry)) (now (scratch .entry)) (now (codes .exit)) (now (scratch .exit)) r ⌝ }
+{
+    let form = Form {
+        week: false,
+        stored: true,
+        day: day as usize,
+    };
+    write_codes_as(file, form, codes, scratch)
 }
 
 // The version, for a box to be asked.

@@ -1,8 +1,9 @@
 -- A refused file's number is printed with nothing changed, and an accepted file is printed by `print_on`.
 use mathlib.Core.Path.{sym, subst, _∙_}
 use Prim.Native.Nat.{ℕ}
+use native.Mathlib.Omega.{arith}
 use borrow.Author.Needs.{needs}
-use Rattle.claimfile.proofs.AcceptedLaws.{accepted-sound}
+use Rattle.claimfile.proofs.AcceptedLaws.{accepted-day, accepted-sound}
 use Rattle.text.specs.Buffer.{Written}
 use Rattle.report.specs.Text.{refusedText}
 use Rattle.printout.proofs.PrintLaws.{prints-refused, prints-accepted}
@@ -27,7 +28,8 @@ enum-known-reading-2 c = search needs
 print-on-requires : tie.Need-print-on-requires
 print-on-requires c κs =
     let told = c .before .before .before .before .before in
-    accepted-sound _ _ _ (sym (told .before .before .read .ensures) ∙ told .reading2 .given .1)
+    let is = sym (told .before .before .read .ensures) ∙ told .reading2 .given .1 in
+    (accepted-sound _ _ _ is, omega (arith, accepted-day _ _ _ is))
 
 same-length : tie.Need-same-length
 same-length c = search needs

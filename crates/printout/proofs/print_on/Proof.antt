@@ -33,10 +33,10 @@ write-closed-requires c κs =
     let start = settled .before .before .before .before .before .before .before .before .before in
     let a = start .args in
     let closed =
-    closed-on (instanceOf (a .file .now) (a .layout)) (a .choice .now) (a .sheet .now) (a .scratch .now) _ _ _ _ _
+    closed-on (instanceOf (a .file .now) (a .layout)) (a .layout .day) (a .choice .now) (a .sheet .now) (a .scratch .now) _ _ _ _ _
     (settled .settle-on .ensures) (told .settled2 .given .1)
     in
-    (start .pre, omega (arith, closed .0 .choices, closed .1 .choice-rest .long))
+    (start .pre .0, omega (arith, closed .1 .choices, closed .2 .choice-rest .long))
 
 same-length : tie.Need-same-length
 same-length c = search needs
@@ -55,8 +55,9 @@ returns c =
     let wrote = c .before .before in
     let told = wrote .before .before .before .before in
     let settled = told .before .before .before .before .before .before .before .before in
-    let a = settled .before .before .before .before .before .before .before .before .before .args in
-    prints-short (instanceOf (a .file .now) (a .layout)) (a .choice .now) (a .sheet .now) (a .scratch .now) _ _ _ _
+    let start = settled .before .before .before .before .before .before .before .before .before in
+    let a = start .args in
+    prints-short (instanceOf (a .file .now) (a .layout)) (a .layout .day) (start .pre .1) (a .choice .now) (a .sheet .now) (a .scratch .now) _ _ _ _
     (settled .settle-on .ensures) (a .out .now) _ _ _ (told .settled .given .1)
     (subst (λ (x : ℕ). Written (refusedText x) (a .out .now) (wrote .write-refused .last .1 .0) (wrote .write-refused .result))
     (wrote .before .before .number .ensures) (wrote .write-refused .ensures))
@@ -78,8 +79,9 @@ returns-2 c =
     let wrote = c .before .before in
     let told = wrote .before .before .before .before in
     let settled = told .before .before .before .before .before .before .before .before in
-    let a = settled .before .before .before .before .before .before .before .before .before .args in
-    prints-closed (instanceOf (a .file .now) (a .layout)) (a .choice .now) (a .sheet .now) (a .scratch .now) _ _ _ _
+    let start = settled .before .before .before .before .before .before .before .before .before in
+    let a = start .args in
+    prints-closed (instanceOf (a .file .now) (a .layout)) (a .layout .day) (start .pre .1) (a .choice .now) (a .sheet .now) (a .scratch .now) _ _ _ _
     (settled .settle-on .ensures) (a .out .now) _ _ _ (told .settled2 .given .1) (wrote .write-closed .ensures)
 
 pub print-on-spec : {M : Type 1} → statement M

@@ -1,0 +1,2 @@
+-- An old-layout file acts as its week file.
+pub mod Layouts
