@@ -2,6 +2,7 @@
 -- either layout, its week file is `asWeek s l` (claimfile/specs/Week.antt), taken in the form `weekForm f`: each limit of an old-layout file is
 -- written seven times. Both hold the same day (`week-day`) and the same claims, and every answer is decided by these. Of fits and rank and of
 -- spare places it is `ranked-week` and `spare-week` (limits/proofs/WeekLaws.antt).
+--   settled-across, codes-across   two days that need the same lengths, and that are one where the week has the day, are promised the same
 --   settles-week               what settle answers and leaves for the one is what it promises for the other
 --   slip-week                  the slip call answers and leaves the same
 --   codes-week                 what the call for the codes answers and leaves for the one is what it promises for the other
@@ -32,11 +33,57 @@ use Rattle.refusal.specs.declared.Written.{Written}
 use Rattle.refusal.specs.Writing.{turned, written}
 use Rattle.limits.specs.Answers.{bits}
 use Rattle.closing.specs.declared.Settled.{Settled}
-use Rattle.closing.specs.Settle.{lacks, toldOn, SettlesOn, Settles}
+use Rattle.closing.specs.Settle.{Lacks, lacks, toldOn, SettlesOn, Settles}
+use Rattle.closing.specs.Settle as closing-settle
 use Rattle.closing.proofs.AnswerLaws.{settles-accepted}
 use Rattle.codes.specs.Write.{Enough, Leaves, answerFor, Writes}
 use Rattle.slip.specs.Slip.{isKept, count, keptRows, firstLine, rowLine, keptLine, keptLines, slip}
 use Rattle.slip.specs.Write as slip-write
+
+--------------------------------------------------------------------------------
+-- Two days that need the same lengths, and that are one where the week has the day
+
+-- on a day that the week does not have, no limit is looked at
+dayless-told :
+    (i j : Instance) (d : ℕ) (ch sheet u : List ℕ) → days ≤ d → lacks (i .net) ch sheet u ≡ lacks (j .net) ch sheet u →
+    toldOn i d ch sheet u ≡ toldOn j d ch sheet u
+unfolding toldOn
+dayless-told i j d ch sheet u over e = rw (le-leb _ _ over, e)
+
+settled-across :
+    (i j : Instance) (d : ℕ) (ch sheet u ch′ sheet′ u′ : List ℕ) (r : Settled) →
+    (Lacks (j .net) ch sheet u → Lacks (i .net) ch sheet u) →
+    (closing-settle.Enough (j .net) ch sheet u → closing-settle.Enough (i .net) ch sheet u) →
+    lacks (i .net) ch sheet u ≡ lacks (j .net) ch sheet u → (d < days → i ≡ j) → SettlesOn i d ch sheet u ch′ sheet′ u′ r →
+    SettlesOn j d ch sheet u ch′ sheet′ u′ r
+settled-across i j d ch sheet u ch′ sheet′ u′ r short enough test same S =
+    elim (decLt d days) [
+      | yes known ↦ subst (λ (x : Instance). SettlesOn x d ch sheet u ch′ sheet′ u′ r) (same known) S
+      | no h ↦
+          record {
+            short = λ x. S .short (short x);
+            dayless = λ x over. S .dayless (enough x) over;
+            closed = λ x known. absurd (h known);
+            told = S .told ∙ dayless-told i j d ch sheet u (omega arith) test;
+          }
+    ]
+
+codes-across :
+    (x y : Form) (v w : List ℕ) (a b : Layout) (codes u codes′ u′ : List ℕ) (r : Written) → reading x v ≡ Accepted a →
+    reading y w ≡ Accepted b → answerFor (reading x v) v codes u ≡ answerFor (reading y w) w codes u →
+    (Enough (networkOf w b) codes u → Enough (networkOf v a) codes u) → a .day ≡ b .day →
+    (a .day < days → instanceOf v a ≡ instanceOf w b) → Writes x v codes u codes′ u′ r → Writes y w codes u codes′ u′ r
+codes-across x y v w a b codes u codes′ u′ r here there answers enough day same W =
+    record {
+      answer = W .answer ∙ answers;
+      refused = W .refused;
+      written = λ k p lent known.
+          let one : b ≡ k = one-layout (reading y w) b k there p in
+          let known-here = subst (λ n. n < days) (sym (day ∙ ap (λ (z : Layout). z .day) one)) known in
+          subst (λ (z : Layout). Leaves (instanceOf w z) codes u codes′ u′) one
+          (subst (λ (z : Instance). Leaves z codes u codes′ u′) (same known-here)
+          (W .written a here (enough (subst (λ (z : Layout). Enough (networkOf w z) codes u) (sym one) lent)) known-here));
+    }
 
 module _
     (f : Form) (s : List ℕ) (l : Layout) (is : reading f s ≡ Accepted l) (bytes : (i : ℕ) → getD s i 0 < 256)
@@ -63,49 +110,19 @@ module _
     ----------------------------------------------------------------------------
     -- Settle
 
-    -- on a day that the week does not have, no limit is looked at
-    dayless-told :
-        (i j : Instance) (ch sheet u : List ℕ) → days ≤ l .day → lacks (i .net) ch sheet u ≡ lacks (j .net) ch sheet u →
-        toldOn i (l .day) ch sheet u ≡ toldOn j (l .day) ch sheet u
-    unfolding toldOn
-    dayless-told i j ch sheet u over e = rw (le-leb _ _ over, e)
-
-    settled-on :
-        (ch sheet u ch′ sheet′ u′ : List ℕ) (r : Settled) → SettlesOn (instanceOf s l) (l .day) ch sheet u ch′ sheet′ u′ r →
-        SettlesOn (instanceOf t m) (l .day) ch sheet u ch′ sheet′ u′ r
-    settled-on ch sheet u ch′ sheet′ u′ r S =
-        elim (decLt (l .day) days) [
-          | yes known ↦ subst (λ (x : Instance). SettlesOn x (l .day) ch sheet u ch′ sheet′ u′ r) (same-day known) S
-          | no h ↦
-              record {
-                short = S .short;
-                dayless = λ e over. S .dayless (record { choices = e .choices; sheets = e .sheets; cells = e .cells }) over;
-                closed = λ enough known. absurd (h known);
-                told = S .told ∙ dayless-told (instanceOf s l) (instanceOf t m) ch sheet u (omega arith) refl;
-              }
-        ]
-
-    settled-back :
-        (ch sheet u ch′ sheet′ u′ : List ℕ) (r : Settled) → SettlesOn (instanceOf t m) (l .day) ch sheet u ch′ sheet′ u′ r →
-        SettlesOn (instanceOf s l) (l .day) ch sheet u ch′ sheet′ u′ r
-    settled-back ch sheet u ch′ sheet′ u′ r S =
-        elim (decLt (l .day) days) [
-          | yes known ↦ subst (λ (x : Instance). SettlesOn x (l .day) ch sheet u ch′ sheet′ u′ r) (sym (same-day known)) S
-          | no h ↦
-              record {
-                short = S .short;
-                dayless = λ e over. S .dayless (record { choices = e .choices; sheets = e .sheets; cells = e .cells }) over;
-                closed = λ enough known. absurd (h known);
-                told = S .told ∙ dayless-told (instanceOf t m) (instanceOf s l) ch sheet u (omega arith) refl;
-              }
-        ]
-
     pub settles-week :
         (ch sheet u ch′ sheet′ u′ : List ℕ) (r : Settled) →
         Settles f s ch sheet u ch′ sheet′ u′ r ↔ Settles (weekForm f) (asWeek s l) ch sheet u ch′ sheet′ u′ r
     settles-week ch sheet u ch′ sheet′ u′ r = (
-      λ S. settles-accepted g t ch sheet u ch′ sheet′ u′ r m there (settled-on ch sheet u ch′ sheet′ u′ r (S .settled l is)),
-      λ S. settles-accepted f s ch sheet u ch′ sheet′ u′ r l is (settled-back ch sheet u ch′ sheet′ u′ r (S .settled m there)),
+      λ S.
+          settles-accepted g t ch sheet u ch′ sheet′ u′ r m there
+          (settled-across (instanceOf s l) (instanceOf t m) (l .day) ch sheet u ch′ sheet′ u′ r (λ x. x)
+          (λ e. record { choices = e .choices; sheets = e .sheets; cells = e .cells }) refl same-day (S .settled l is)),
+      λ S.
+          settles-accepted f s ch sheet u ch′ sheet′ u′ r l is
+          (settled-across (instanceOf t m) (instanceOf s l) (l .day) ch sheet u ch′ sheet′ u′ r (λ x. x)
+          (λ e. record { choices = e .choices; sheets = e .sheets; cells = e .cells }) refl (λ known. sym (same-day known))
+          (S .settled m there)),
     )
 
     ----------------------------------------------------------------------------
@@ -143,33 +160,11 @@ module _
     pub codes-week :
         (codes u codes′ u′ : List ℕ) (r : Written) →
         Writes f s codes u codes′ u′ r ↔ Writes (weekForm f) (asWeek s l) codes u codes′ u′ r
-    codes-week codes u codes′ u′ r = (forth, back)
+    codes-week codes u codes′ u′ r = (
+      codes-across f g s t l m codes u codes′ u′ r is there answers (λ e. record { bytes = e .bytes; cells = e .cells }) refl same-day,
+      codes-across g f t s m l codes u codes′ u′ r there is (sym answers) (λ e. record { bytes = e .bytes; cells = e .cells }) refl
+          (λ known. sym (same-day known)),
+    )
       where
         answers : answerFor (reading f s) s codes u ≡ answerFor (reading g t) t codes u
         answers = ap (λ (x : Reading). answerFor x s codes u) is ∙ ap (λ (x : Reading). answerFor x t codes u) (sym there)
-
-        forth : Writes f s codes u codes′ u′ r → Writes g t codes u codes′ u′ r
-        forth W = record {
-          answer = W .answer ∙ answers;
-          refused = W .refused;
-          written = λ k p enough known.
-              let same : m ≡ k = one-layout (reading g t) m k there p in
-              let lent = subst (λ (x : Layout). Enough (networkOf t x) codes u) (sym same) enough in
-              let day = subst (λ (x : Layout). x .day < days) (sym same) known in
-              subst (λ (x : Layout). Leaves (instanceOf t x) codes u codes′ u′) same
-              (subst (λ (x : Instance). Leaves x codes u codes′ u′) (same-day day)
-              (W .written l is (record { bytes = lent .bytes; cells = lent .cells }) day));
-        }
-
-        back : Writes g t codes u codes′ u′ r → Writes f s codes u codes′ u′ r
-        back W = record {
-          answer = W .answer ∙ sym answers;
-          refused = W .refused;
-          written = λ k p enough known.
-              let same : l ≡ k = one-layout (reading f s) l k is p in
-              let lent = subst (λ (x : Layout). Enough (networkOf s x) codes u) (sym same) enough in
-              let day = subst (λ (x : Layout). x .day < days) (sym same) known in
-              subst (λ (x : Layout). Leaves (instanceOf s x) codes u codes′ u′) same
-              (subst (λ (x : Instance). Leaves x codes u codes′ u′) (sym (same-day day))
-              (W .written m there (record { bytes = lent .bytes; cells = lent .cells }) day));
-        }
