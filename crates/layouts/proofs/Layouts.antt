@@ -3,11 +3,12 @@
 -- written seven times. Both hold the same day (`week-day`) and the same claims, and every answer is decided by these. Of fits and rank and of
 -- spare places it is `ranked-week` and `spare-week` (limits/proofs/WeekLaws.antt).
 --   settled-across, codes-across   two days that need the same lengths, and that are one where the week has the day, are promised the same
---   settles-week               what settle answers and leaves for the one is what it promises for the other
---   slip-week                  the slip call answers and leaves the same
---   codes-week                 what the call for the codes answers and leaves for the one is what it promises for the other
+--   old-days                       an old-layout file holds the same day on every day of the week
+--   settles-week                   what settle answers and leaves for the one is what it promises for the other
+--   slip-week                      the slip call answers and leaves the same
+--   codes-week                     what the call for the codes answers and leaves for the one is what it promises for the other
 use mathlib.Core.Path.{_≡_, refl, sym, ap, ap₂, _∙_, subst, fun-ext}
-use mathlib.Core.Bool.{_&&_}
+use mathlib.Core.Bool.{Bool, false, _&&_}
 use mathlib.Core.Logic.{_↔_}
 use mathlib.Core.List.{List, [], _++_}
 use Prim.Native.Nat.{ℕ, zero, suc, _≤_, _<_}
@@ -24,7 +25,7 @@ use Rattle.claimfile.specs.declared.Claim.{Claim}
 use Rattle.claimfile.specs.declared.Reading.{Reading}
 use Rattle.claimfile.specs.declared.Reading.the-variants.{Accepted}
 use Rattle.claimfile.specs.File.{days, reading}
-use Rattle.claimfile.specs.Day.{claimOf, networkOf, instanceOf}
+use Rattle.claimfile.specs.Day.{claimOf, networkOf, instanceOf, onDay, limitOf, writtenOf, parentOf, cardNode, shopNode}
 use Rattle.claimfile.specs.Week.{weekForm, asWeek, weekLayout}
 use Rattle.claimfile.proofs.AcceptedLaws.{one-layout}
 use Rattle.claimfile.proofs.WeekLaws.{week-accepted, week-claim, week-day}
@@ -84,6 +85,28 @@ codes-across x y v w a b codes u codes′ u′ r here there answers enough day s
           (subst (λ (z : Instance). Leaves z codes u codes′ u′) (same known-here)
           (W .written a here (enough (subst (λ (z : Layout). Enough (networkOf w z) codes u) (sym one) lent)) known-here));
     }
+
+--------------------------------------------------------------------------------
+-- The days of an old-layout file
+
+-- the layout l with another form of the groups and another day
+abbrev placed : Layout → Bool → ℕ → Layout
+placed l week d = record {
+  week = week;
+  day = d;
+  cards = l .cards;
+  shops = l .shops;
+  rows = l .rows;
+  «card_at» = l .«card_at»;
+  «shop_at» = l .«shop_at»;
+  «row_at» = l .«row_at»;
+}
+
+-- it has one limit for all days, so that what it holds is the same on each
+pub old-days :
+    (s : List ℕ) (l : Layout) (d e : ℕ) → l .week ≡ false → instanceOf s (onDay l d) ≡ instanceOf s (onDay l e)
+unfolding limitOf writtenOf parentOf cardNode shopNode
+old-days s l d e old = subst (λ (b : Bool). instanceOf s (placed l b d) ≡ instanceOf s (placed l b e)) (sym old) refl
 
 module _
     (f : Form) (s : List ℕ) (l : Layout) (is : reading f s ≡ Accepted l) (bytes : (i : ℕ) → getD s i 0 < 256)
