@@ -11,10 +11,10 @@
  * of n cells where it is declared, and cell n of it, counted from 0, elsewhere. `printf` prints a text; each %u in it stands for a number
  * and each %s for a word.
  *
- * The exit status is 0 where the file is settled, 1 where it is refused and 2 where there is none to read.
+ * The exit status is 0 where the file is settled, 1 where it is refused, 2 where there is none to read and 3 where the day is no number.
  */
+#include <stdbool.h>
 #include <stdio.h>
-#include <stdlib.h>
 #include "claims.h"
 
 /*
@@ -48,8 +48,25 @@ static const char *const turned_down[] = {
     [CLAIMS_CODE_ORDINARY] = "turned down",
     [CLAIMS_CODE_SHOP] = "turned down: raise a shop limit",
     [CLAIMS_CODE_CARD] = "turned down: raise a card limit",
-    [CLAIMS_CODE_REST] = "turned down: neither a shop limit nor a card limit alone helps",
+    [CLAIMS_CODE_REST] = "turned down: raise a shop limit and a card limit",
 };
+
+/*
+ * Reads a day from a word: digits alone, and no more than a number of 32 bits holds. Says whether the word is such a number; whether the
+ * week has that day is judged by the library.
+ */
+static bool read_day(const char *word, uint32_t *day) {
+    uint64_t number = 0;
+    for (size_t at = 0; word[at] != '\0'; at++) {
+        if (word[at] < '0' || word[at] > '9')
+            return false;
+        number = 10 * number + (uint64_t)(word[at] - '0');
+        if (number > UINT32_MAX)
+            return false;
+    }
+    *day = (uint32_t)number;
+    return word[0] != '\0';
+}
 
 int main(int count, char **words) {
     /* This program was written for one version of the library, and may be linked with another. */
@@ -58,8 +75,12 @@ int main(int count, char **words) {
         return 2;
     }
 
-    /* The first word after the program's own name is the day; where there is none, it is day 0. The file comes by standard input. */
-    uint32_t day = count > 1 ? (uint32_t)strtoul(words[1], NULL, 10) : 0;
+    /* The word after the program's own name is the day; where there is none, it is day 0. The file comes by standard input. */
+    uint32_t day = 0;
+    if (count > 2 || (count == 2 && !read_day(words[1], &day))) {
+        fprintf(stderr, "the day has to be one whole number, 0 to 6: %s [DAY] < FILE\n", words[0]);
+        return 3;
+    }
     size_t length = fread(file, 1, sizeof file, stdin);
     if (ferror(stdin)) {
         perror("the claim file");

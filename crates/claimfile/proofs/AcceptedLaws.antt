@@ -173,7 +173,7 @@ claim-fine claim cards shops e =
 --------------------------------------------------------------------------------
 -- A section that was read
 
-never-read :
+pub never-read :
     {A : Type 0} (x : Section) (why : Refusal) (count start next : ℕ) → x ≡ Read count start next → x ≡ Faulty why → A
 never-read x why count start next p q =
     let z : _≡_ {A = ℕ} 0 1 = cc in

@@ -8,6 +8,7 @@ ghost use mathlib.Core.Path.{_≡_};
 ghost use Prim.Native.Nat.{_+_, _*_};
 ghost use lib.ListN.{length};
 ghost use Rattle.theory.specs.Bounds.{maxGroups, maxRows};
+ghost use Rattle.claimfile.specs.Written.{lengthFor};
 ghost use Rattle.printout.specs.Printout.{longestText};
 
 // The lengths that the largest day needs.
@@ -16,6 +17,13 @@ const CHOICE: usize = MAX_ROWS;
 const SHEET: usize = 2 * MAX_GROUPS + MAX_ROWS;
 
 const SCRATCH: usize = 8 * SHEET;
+
+// The longest file has 10,758 bytes (`longest` in claimfile/proofs/AcceptedLaws.antt); one more is read, so that a byte too many is seen.
+fn file_buffer() -> [u8; 10759]
+    ensures { λ r. ⌜ lengthFor maxGroups maxGroups maxRows + 1 ≡ length r ⌝ }
+{
+    [0; 10759]
+}
 
 fn choice_buffer() -> [u8; CHOICE]
     ensures { λ r. ⌜ maxRows ≡ length r ⌝ }
@@ -55,9 +63,8 @@ fn run(file: &[u8]) {
     show(file, &mut choice, &mut sheet, &mut scratch, &mut text);
 }
 
-// The longest file has 10,758 bytes; one more is read, so that a byte too many is seen.
 pub fn settle_stdin() {
-    let mut file = [0u8; 10759];
+    let mut file = file_buffer();
     let length = io::read_full(STDIN_FILENO, &mut file);
     run(&file[..length]);
 }

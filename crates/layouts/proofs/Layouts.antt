@@ -31,7 +31,7 @@ use Rattle.claimfile.proofs.AcceptedLaws.{one-layout}
 use Rattle.claimfile.proofs.WeekLaws.{week-accepted, week-claim, week-day}
 use Rattle.refusal.specs.declared.Reason.the-variants.{Short, Day, Value}
 use Rattle.refusal.specs.declared.Written.{Written}
-use Rattle.refusal.specs.Writing.{turned, written}
+use Rattle.refusal.specs.Writing.{turned, written, toldBy}
 use Rattle.limits.specs.Answers.{bits}
 use Rattle.closing.specs.declared.Settled.{Settled}
 use Rattle.closing.specs.Settle.{Lacks, lacks, toldOn, SettlesOn, Settles}
@@ -77,6 +77,7 @@ codes-across :
 codes-across x y v w a b codes u codes′ u′ r here there answers enough day same W =
     record {
       answer = W .answer ∙ answers;
+      told = W .told ∙ ap toldBy answers;
       refused = W .refused;
       written = λ k p lent known.
           let one : b ≡ k = one-layout (reading y w) b k there p in

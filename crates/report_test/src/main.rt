@@ -36,16 +36,16 @@ fn text_of(
     write_closed(file, layout, earned, kept, total, choice, out)
 }
 
-// Day A: two cards and two shops of limit 1 at the top, and the claims c0/s0 e, c0/s1 o, c1/s0 o.
+// Day A: two cards and two shops of limit 1 at the top, and the claims c0/s0 e, c0/s1 o, c1/s0 o. Rows 0 and 1 are kept.
 fn day(out: &mut [u8]) -> usize
     ensures { λ r. ⌜ Counts r (now (out .exit)) ⌝ }
 {
     text_of(
         b"\x02\x00\xff\xff\x01\x00\xff\xff\x01\x00\x02\x00\xff\xff\x01\x00\xff\xff\x01\x00\x03\x00\x00\x00\x00\x00\x01\x00\x00\x01\x00\x00\x01\x00\x00\x00\x00",
         1,
-        1,
-        4,
-        b"\x01\x00\x00",
+        2,
+        5,
+        b"\x01\x01\x00",
         out,
     )
 }
@@ -109,9 +109,9 @@ fn told(n: usize, out: &[u8]) {
     say(b"cells ", out.len() as u64);
     say(b" written ", n as u64);
     say(b" first ", cell(out, 0));
-    say(b" at 73 ", cell(out, 73));
-    say(b" at 74 ", cell(out, 74));
     say(b" at 75 ", cell(out, 75));
+    say(b" at 76 ", cell(out, 76));
+    say(b" at 77 ", cell(out, 77));
     io::write_all(1, b"\n");
 }
 
@@ -124,10 +124,10 @@ fn main() {
     closed();
     largest();
     refusals();
-    let mut exact = [7u8; 75];
+    let mut exact = [7u8; 77];
     probe(&mut exact);
-    let mut longer = [7u8; 76];
+    let mut longer = [7u8; 78];
     probe(&mut longer);
-    let mut short = [7u8; 74];
+    let mut short = [7u8; 76];
     probe(&mut short);
 }
