@@ -314,8 +314,8 @@ claims_write_canonical_call claims_write_canonical_old_stored;
  * The other side's limits do not help. Of the rows with code 1 as many are kept as fit the shop side, and of those with code 2 as many as
  * fit the card side. However far card limits alone are raised, no more rows with code 1 are kept than before, and no more with codes 1 and
  * 3 together. However far shop limits alone are raised, no more rows with code 2 are kept, and no more with codes 2 and 3 together. Limits
- * of one side may keep one earned row more that has another code, or one row with code 3 in the place of another. Where no row has code 1,
- * shop limits alone bring no earned row more; where none has code 2, card limits alone bring none.
+ * of one side may keep more earned rows with another code, or one row with code 3 in the place of another. Where no row has code 1, shop
+ * limits alone bring no earned row more; where none has code 2, card limits alone bring none.
  *
  * An ordinary row has code 0, and an earned row that is kept has one of the others too. The codes come from a largest choice of earned
  * rows that fits both sides and are the same whichever is taken, so that they depend neither on row order nor on ordinary rows. For a

@@ -457,9 +457,27 @@ static void read_week(const struct sort *by, const struct file *f, struct week *
     expect(faults == 0, "a week is not read");
 }
 
+/* An old-layout file, sound or broken, in the week layout: the limit of each whole record seven times, and all else as it stands. */
+static void widen(const struct file *old, struct file *week) {
+    size_t from = 0;
+    week->length = 0;
+    for (unsigned side = 0; side < 2 && from + 2 <= old->length; side++) {
+        unsigned count = get16(old->bytes + from);
+        memcpy(week->bytes + week->length, old->bytes + from, 2);
+        from += 2, week->length += 2;
+        for (unsigned g = 0; g < count && from + 4 <= old->length; g++, from += 4) {
+            memcpy(week->bytes + week->length, old->bytes + from, 2);
+            week->length += 2;
+            for (unsigned k = 0; k < WEEKDAYS; k++, week->length += 2) memcpy(week->bytes + week->length, old->bytes + from + 2, 2);
+        }
+    }
+    memcpy(week->bytes + week->length, old->bytes + from, old->length - from);
+    week->length += old->length - from;
+}
+
 /* A byte of a random file changed, or its end cut off or lengthened, against the plain reader for that sort. */
 static void broken_files(const struct sort *by, unsigned files) {
-    static struct file f;
+    static struct file f, wide;
     static struct week read;
     struct day d;
     for (unsigned i = 0; i < files; i++) {
@@ -472,6 +490,12 @@ static void broken_files(const struct sort *by, unsigned files) {
         default: f.bytes[below((unsigned)f.length)] = (uint8_t)below(4);
         }
         unsigned number = read_day(f.bytes, f.length, form_of(by, weekday), &d);
+        if (by->layout == OLD) {
+            const struct sort *there = &sorts[by->stored ? STORED_WEEK : NEW_WEEK];
+            widen(&f, &wide);
+            expect(read_day(wide.bytes, wide.length, form_of(there, weekday), &d) == number, "a widened file has another number");
+            if (number != 0) refused("a broken file, widened", there, &wide, number);
+        }
         if (number != 0) {
             refused("a broken file", by, &f, number);
             continue;

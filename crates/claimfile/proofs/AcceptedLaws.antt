@@ -6,6 +6,7 @@
 --   sectionIn accepted-sections    the group sections of an accepted file are those of its layout
 --   accepted-sound             an accepted file is sound
 --   accepted-week accepted-day its layout is the form's, and so is the day
+--   accepted-rows              the count of its claims stands before the first of them
 --   accepted-stored            it is accepted as a stored file too
 --   accepted-on                and for every day
 --   new-below                  in a new file no group's limit is above its parent's, on any day
@@ -307,6 +308,7 @@ record Accords (f : Form) (s : List ℕ) (l : Layout) : Type 0 where
   day : l .day ≡ f .day
   sections : (side : ℕ) → side < 2 → sectionOn f s side ≡ sectionIn l side
   sound : Sound s l
+  rows : word s (l .«row_at» - 2) ≡ l .rows
   stored : reading (asStored f) s ≡ Accepted l
   on : (d : ℕ) → reading (forDay f d) s ≡ Accepted (onDay l d)
   below : f .stored ≡ false → NoneAbove s l
@@ -335,6 +337,7 @@ module _ (f : Form) (s : List ℕ) (cards cardAt next shops shopAt after rows ro
         day = refl;
         sections = sections;
         sound = sound;
+        rows = counted;
         stored = stored;
         on = on;
         below = below;
@@ -359,6 +362,11 @@ module _ (f : Form) (s : List ℕ) (cards cardAt next shops shopAt after rows ro
       below : f .stored ≡ false → NoneAbove s l
       below new d zero g m small = of-cards .each g m .limits new small (columnOf (f .week) d) (column-small (f .week) d)
       below new d (suc n) g m small = of-shops .each g m .limits new small (columnOf (f .week) d) (column-small (f .week) d)
+
+      counted : word s (rowAt - 2) ≡ rows
+      counted =
+          let before : rowAt - 2 ≡ after = omega (arith, taken) in
+          ap (word s) before ∙ sym (taken .counted)
 
       sound : Sound s l
       sound = record {
@@ -428,6 +436,9 @@ module _ (f : Form) (s : List ℕ) (l : Layout) (is : reading f s ≡ Accepted l
 
   pub accepted-sound : Sound s l
   accepted-sound = all .sound
+
+  pub accepted-rows : word s (l .«row_at» - 2) ≡ l .rows
+  accepted-rows = all .rows
 
   pub accepted-stored : reading (asStored f) s ≡ Accepted l
   accepted-stored = all .stored

@@ -13,3 +13,5 @@ pub mod BegunLaws
 pub mod SameLaws
 pub mod ClaimsLaws
 pub mod WeekLaws
+pub mod AlikeLaws
+pub mod WidenedLaws

@@ -94,7 +94,7 @@ unfolding section
 section-count n f t at h = holds-first t at (bytesOf n) (records n f) h
 
 module _ (width n : ℕ) (f : ℕ → List ℕ) (each : (i : ℕ) → length (f i) ≡ width) where
-  section-length : length (section n f) ≡ 2 + width * n
+  pub section-length : length (section n f) ≡ 2 + width * n
   unfolding section
   section-length = omega (arith, length-append (bytesOf n) (records n f), records-length width f each n)
 
@@ -103,7 +103,7 @@ module _ (width n : ℕ) (f : ℕ → List ℕ) (each : (i : ℕ) → length (f 
     unfolding section
     section-record h = holds-record width f each t start n (holds-second t at (bytesOf n) (records n f) start e h)
 
-    holds-section :
+    pub holds-section :
         Holds t at (bytesOf n) → ((i : ℕ) → i < n → Holds t (start + width * i) (f i)) → Holds t at (section n f)
     unfolding section
     holds-section count h =
