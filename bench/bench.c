@@ -106,7 +106,7 @@ static double print_growth(void) {
     return most;
 }
 
-/* ---- reading, and fits and rank ---- */
+/* ---- reading, fits and rank, and accept ---- */
 
 static volatile unsigned sink;
 static uint8_t selection[MOST_ROWS];
@@ -140,12 +140,24 @@ static void rank_greedy(const void *with) {
     sink += greedy_fits_and_rank(d->bytes, d->length, selection, MOST_ROWS, 1, 0).rank;
 }
 
-static void (*const works[])(const void *) = {judge_ours, judge_plain, read_plain, rank_ours, rank_plain, rank_greedy};
-enum { JUDGE_OURS, JUDGE_PLAIN, READ_PLAIN, RANK_OURS, RANK_PLAIN, RANK_GREEDY, WORKS };
+/* Our own closing of the day, which stands in `closing` and in our sheet. */
+static struct outcome closing;
+static void accept_ours(const void *with) {
+    const struct file *d = with;
+    sink += ours_accept(d->bytes, d->length, closing.choice, MOST_ROWS, 0);
+}
+static void accept_plain(const void *with) {
+    const struct file *d = with;
+    sink += plain_accept(d->bytes, d->length, closing.choice, MOST_ROWS, ours_sheet(), MOST_MARKS, 0);
+}
+
+static void (*const works[])(const void *) = {judge_ours, judge_plain, read_plain, rank_ours, rank_plain, rank_greedy,
+                                              accept_ours, accept_plain};
+enum { JUDGE_OURS, JUDGE_PLAIN, READ_PLAIN, RANK_OURS, RANK_PLAIN, RANK_GREEDY, ACCEPT_OURS, ACCEPT_PLAIN, WORKS };
 
 static double work_means[WORKS];
 
-/* Reading, whole files and files that end early; and ranks of two thirds of the rows, both sides. */
+/* Reading, whole files and files that end early; ranks of two thirds of the rows, both sides; and our own closing judged. */
 static void measure_works(void) {
     struct file day;
     for (unsigned c = 0; c < MOST_ROWS; c++) selection[c] = c % 3 != 0;
@@ -155,16 +167,18 @@ static void measure_works(void) {
             if (k % 2 == 0) day.length -= k + 1;
             for (unsigned w = 0; w < RANK_OURS; w++) work_means[w] += measure_work(works[w], &day, TIMES, REPEATS) / (FAMILIES * DAYS);
             make_day(f, sizes[FULL], k, &day);
+            ours_settle(day.bytes, day.length, &closing);
             for (unsigned w = RANK_OURS; w < WORKS; w++) work_means[w] += measure_work(works[w], &day, TIMES, REPEATS) / (FAMILIES * DAYS);
         }
 }
 
 static void print_works(void) {
-    printf("\nReading a file (accepted or refused), and fits and rank of both sides, microseconds.\n");
+    printf("\nReading a file (accepted or refused), fits and rank of both sides, and accept of our own closing, microseconds.\n");
     printf("reading:       ours %.2f, plain C %.2f, plain C into tables %.2f\n", work_means[JUDGE_OURS], work_means[JUDGE_PLAIN],
            work_means[READ_PLAIN]);
     printf("fits and rank: ours %.2f, plain C %.2f, greedy plain C %.2f\n", work_means[RANK_OURS], work_means[RANK_PLAIN],
            work_means[RANK_GREEDY]);
+    printf("accept:        ours %.2f, plain C %.2f\n", work_means[ACCEPT_OURS], work_means[ACCEPT_PLAIN]);
 }
 
 /* ---- targets ---- */
@@ -187,6 +201,7 @@ static void print_targets(unsigned peer, double growth) {
     target("reading to a plain C reader into tables", work_means[JUDGE_OURS] / work_means[READ_PLAIN], 3);
     target("fits and rank to plain C", work_means[RANK_OURS] / work_means[RANK_PLAIN], 1.5);
     target("fits and rank to greedy plain C", work_means[RANK_OURS] / work_means[RANK_GREEDY], 3);
+    target("accept to plain C", work_means[ACCEPT_OURS] / work_means[ACCEPT_PLAIN], 1.5);
 }
 
 static void one_day(unsigned family, unsigned rows, unsigned number) {

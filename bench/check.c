@@ -1,6 +1,6 @@
 /*
  * Every contestant's answer against ours, and ours against a search through all selections, on a handful of days; the codes against the
- * ranks of the rows that have them; and the stack of every call against its bound.
+ * ranks of the rows that have them; closings against a plain judge; and the stack of every call against its bound.
  *
  *   check CALL...    CALL... are the names of the calls that the archive exports
  */
@@ -109,6 +109,29 @@ static void check_codes(const struct file *day, unsigned family, unsigned rows, 
     check(wrong == 0, "the codes go against the ranks", "ours", family, rows, number);
 }
 
+static void check_closing(const struct file *day, const uint8_t *choice, size_t choices, unsigned weekday, const char *what,
+                          unsigned family, unsigned rows, unsigned number) {
+    unsigned ours = ours_accept(day->bytes, day->length, choice, choices, weekday);
+    unsigned plain = plain_accept(day->bytes, day->length, choice, choices, ours_sheet(), MOST_MARKS, weekday);
+    check(ours == plain, what, "plain C", family, rows, number);
+}
+
+/* What settle leaves is accepted. With a row changed, a mark raised or lowered, or a choice or a day that is refused, plain C agrees. */
+static void check_closings(const struct file *day, unsigned family, unsigned rows, unsigned number) {
+    static struct outcome kept;
+    unsigned weekday = number % WEEKDAYS, row = number % rows;
+    ours_settle(day->bytes, day->length, &kept);
+    check(ours_accept(day->bytes, day->length, kept.choice, rows, weekday) == 0, "its own closing is refused", "ours", family, rows, number);
+    check_closing(day, kept.choice, rows, weekday, "another number for our closing", family, rows, number);
+    check_closing(day, kept.choice, rows - 1, weekday, "another number for a short choice", family, rows, number);
+    check_closing(day, kept.choice, rows, WEEKDAYS, "another number for a day over 6", family, rows, number);
+    for (unsigned k = 0; k < 3; k++) {
+        ours_sheet()[row] += k == 1 ? 1 : -1;
+        kept.choice[row] ^= k == 2;
+        check_closing(day, kept.choice, rows, weekday, "another number for a changed closing", family, rows, number);
+    }
+}
+
 /* A file that is cut, lengthened, or has one byte set anew: the readers give the same number. */
 static void check_damaged(const struct file *day, unsigned family, unsigned rows, unsigned number) {
     static struct file hurt;
@@ -165,6 +188,7 @@ int main(int argc, char **argv) {
                 check_settled(&day, family, large[s], number);
                 check_ranks(&day, family, large[s], number);
                 check_codes(&day, family, large[s], number);
+                check_closings(&day, family, large[s], number);
             }
         make_day(family, 64, 0, &day);
         check_damaged(&day, family, 64, 0);

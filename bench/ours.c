@@ -32,6 +32,13 @@ struct plain_rank ours_fits_and_rank(const uint8_t *file, size_t length, const u
     return (struct plain_rank){r.refusal, r.fits, r.rank};
 }
 
+/* The sheet is what the last call of settle left. */
+unsigned ours_accept(const uint8_t *file, size_t length, const uint8_t *choice, size_t choices, unsigned weekday) {
+    return claims_accept(file, length, choice, choices, sheet, MOST_MARKS, weekday);
+}
+
+uint32_t *ours_sheet(void) { return sheet; }
+
 /* ---- every call ---- */
 
 enum { DAY_NAMED = WEEKDAYS - 1 };
@@ -67,6 +74,11 @@ static void make_codes(const struct sort *by, const struct file *day, const uint
     by->write_codes(day->bytes, day->length, DAY_NAMED, codes, CLAIMS_LONGEST_CODES, scratch, 8 * MOST_MARKS);
 }
 
+/* With the selection as the choice, and the sheet that settle left for the day. */
+static void make_accept(const struct sort *by, const struct file *day, const uint8_t *selection) {
+    by->accept(day->bytes, day->length, selection, MOST_ROWS, sheet, MOST_MARKS, DAY_NAMED);
+}
+
 static void make_version(const struct sort *by, const struct file *day, const uint8_t *selection) {
     (void)by, (void)day, (void)selection;
     claims_version();
@@ -86,6 +98,7 @@ const struct call calls[] = {
     EACH_SORT("claims_write_slip", make_slip),
     EACH_SORT("claims_write_canonical", make_canonical),
     EACH_SORT("claims_write_codes", make_codes),
+    EACH_SORT("claims_accept", make_accept),
     {"claims_version", make_version, NULL},
 };
 const unsigned call_count = sizeof calls / sizeof *calls;

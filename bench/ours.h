@@ -20,6 +20,10 @@ unsigned ours_judge(const uint8_t *file, size_t length);
 struct plain_rank ours_fits_and_rank(const uint8_t *file, size_t length, const uint8_t *selection, size_t selected, unsigned side,
                                      unsigned weekday);
 
+/* Whether a choice is accepted with the sheet that our last settling left: 0, or the number. The sheet may be changed before. */
+unsigned ours_accept(const uint8_t *file, size_t length, const uint8_t *choice, size_t choices, unsigned weekday);
+uint32_t *ours_sheet(void);
+
 /*
  * Every call that the library exports: its name, a function that makes it on a day with a selection, for each side or each row where the
  * call is told one, and the sort of file that it takes, or NULL where it takes none. The archive's names are compared with this table; a

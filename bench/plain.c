@@ -1,4 +1,4 @@
-/* A plain judge of files, and plain ranks. */
+/* A plain judge of files, plain ranks, and a plain judge of closings. */
 #include "plain.h"
 
 enum { WIDTH = 2 + 2 * WEEKDAYS }; /* bytes of a group record */
@@ -72,4 +72,47 @@ struct plain_rank plain_fits_and_rank(const uint8_t *file, size_t length, const 
 struct plain_rank greedy_fits_and_rank(const uint8_t *file, size_t length, const uint8_t *selection, size_t selected, unsigned side,
                                        unsigned weekday) {
     return judged_rank(file, length, selection, selected, side, weekday, rank_greedily);
+}
+
+/* The price of each group of a side, when those of the groups before it are there. */
+static void price_side(const struct day *d, unsigned side, const uint32_t *marks, uint64_t *prices) {
+    for (unsigned g = 0; g < d->groups[side]; g++) {
+        unsigned up = d->parent[side][g];
+        prices[g] = marks[g] + (up == TOP ? 0 : prices[up]);
+    }
+}
+
+static int covers_rows(const struct day *d, const uint32_t *sheet) {
+    static uint64_t prices[2][MOST_GROUPS];
+    const uint32_t *own = sheet + d->groups[CARD] + d->groups[SHOP];
+    price_side(d, CARD, sheet, prices[CARD]);
+    price_side(d, SHOP, sheet + d->groups[CARD], prices[SHOP]);
+    for (unsigned c = 0; c < d->rows; c++) {
+        unsigned card = counts_from(d, CARD, c);
+        uint64_t price = prices[SHOP][d->group[SHOP][c]] + (card == TOP ? 0 : prices[CARD][card]);
+        if (own[c] + price < weight_of(d, d->kind[c])) return 0;
+    }
+    return 1;
+}
+
+static uint64_t total_of(const struct day *d, const uint32_t *sheet) {
+    uint64_t total = 0;
+    for (unsigned side = 0; side < 2; side++)
+        for (unsigned g = 0; g < d->groups[side]; g++) total += (uint64_t)d->limit[side][g] * *sheet++;
+    for (unsigned c = 0; c < d->rows; c++) total += *sheet++;
+    return total;
+}
+
+unsigned plain_accept(const uint8_t *file, size_t length, const uint8_t *choice, size_t choices, const uint32_t *sheet, size_t marks,
+                      unsigned weekday) {
+    static struct day d;
+    struct form form = {WEEK, NEW, weekday < WEEKDAYS ? weekday : 0};
+    unsigned fault = read_day(file, length, form, &d);
+    if (fault) return fault;
+    if (marks < d.groups[CARD] + d.groups[SHOP] + d.rows) return 8;
+    fault = judge_selection(&d, choice, choices, CARD, weekday);
+    if (fault) return fault;
+    if (!rank_side(&d, CARD, choice).fits || !rank_side(&d, SHOP, choice).fits) return 13;
+    if (!covers_rows(&d, sheet)) return 14;
+    return total_of(&d, sheet) == worth_of(&d, choice) ? 0 : 15;
 }

@@ -1,5 +1,6 @@
 /*
- * A day of bread claims: the calls for the till's own program. c/example.c is a whole program that uses them.
+ * A day of bread claims: the calls for the till's own program. c/example.c is a whole program that uses them, and c/accept.c is one for
+ * other makers of tills.
  *
  * The claim file has three sections, each after its count: card groups, shop groups and claims. Every count and field is unsigned and 16
  * bits wide, low byte first, except the kind, which is one byte. Groups are numbered from 0 within their section, and claims, the file's
@@ -57,7 +58,7 @@ extern "C" {
  * The version: which library this header describes. It rises by one with each release that changes a call, a needed length or an answer.
  * claims_version() tells the version of the library that a program is linked with.
  */
-#define CLAIMS_VERSION 8u
+#define CLAIMS_VERSION 9u
 
 /* The most that a file may hold. */
 #define CLAIMS_MOST_GROUPS 256u       /* in one section, card groups or shop groups */
@@ -107,7 +108,7 @@ extern "C" {
 /*
  * Why a call is turned away: the numbers of documents 01 and 02. The file is judged first, from its front, and the first fault met is the
  * one told (1 to 7, and 11). Of one group record 3 is judged first and then 11; the calls for stored files do not judge 11. Then comes the
- * length of the selection or of the lent buffers (8), then the day (12), then the values (9), and 10 is judged last.
+ * length of the selection or of the lent buffers (8), then the day (12), then the values (9), and 10, or 13, 14 and 15, last.
  */
 #define CLAIMS_CUT_OFF 1u       /* the file ends before or inside a count or record that is due */
 #define CLAIMS_GROUP_COUNT 2u   /* a group count is over 256 */
@@ -121,6 +122,9 @@ extern "C" {
 #define CLAIMS_SELECTED 10u     /* spare places only: the row is already in the selection */
 #define CLAIMS_LIMIT_ABOVE 11u  /* new files only: a group's limit is above its parent's on any of the seven days */
 #define CLAIMS_DAY 12u          /* every call but the canonical form: the day is over 6 */
+#define CLAIMS_UNFIT 13u        /* accept only: the choice does not fit */
+#define CLAIMS_UNCOVERED 14u    /* accept only: a claim is not covered */
+#define CLAIMS_UNEQUAL 15u      /* accept only: the totals differ */
 
 /* What fits and rank answers. */
 struct claims_fits_and_rank_answer {
@@ -165,7 +169,7 @@ struct claims_write_codes_answer {
 uint32_t claims_version(void);
 
 /*
- * Each of the six sections that follow is one call. It says what the call does and what its arguments are; then comes its form as a type,
+ * Each of the seven sections that follow is one call. It says what the call does and what its arguments are; then comes its form as a type,
  * which ends in _call, and then a line for each sort of file. The line `claims_settle_call claims_settle_old;` declares the function
  * claims_settle_old with the arguments and the answer of the type claims_settle_call.
  */
@@ -338,6 +342,42 @@ claims_write_codes_call claims_write_codes;
 claims_write_codes_call claims_write_codes_stored;
 claims_write_codes_call claims_write_codes_old;
 claims_write_codes_call claims_write_codes_old_stored;
+
+/* ---- Accept ---- */
+
+/*
+ * Whether head office accepts a closing, whichever program made it: a file with a choice and a sheet of marks, for a day. With N claims an
+ * earned row weighs N + 1 and an ordinary one 1. The closing is accepted exactly where
+ *
+ *     the choice fits both sides                                                                                          else 13
+ *     every claim is covered: its own mark and the marks of all groups that it counts in come to its weight at least      else 14
+ *     the sheet's total, each group's limit times its mark and all claims' marks, is what the chosen rows weigh           else 15
+ *
+ * and what is told is the first of these that is not so. Before them come the faults of the file, the length of the choice or of the sheet
+ * (8), the day (12) and the bytes of the choice (9). Marks may be any numbers of 32 bits, and sums are true sums. For a stored file the
+ * limits are the lowered ones.
+ *
+ * Where a closing is accepted, no choice that fits has more earned rows than this one, and none with as many has more rows. Which of
+ * several such choices it is, is not judged. What settle leaves is accepted for the same file and day, by the call for the same sort of
+ * file. A longer choice or sheet may be given; what lies past the needed length is not read. Nothing is changed.
+ *
+ * file, file_length         the claim file
+ * choice, choice_length     CLAIMS_CHOICE_LENGTH(claims) bytes at least: 1 for each kept row and 0 for each other row
+ * sheet, sheet_length       CLAIMS_SHEET_LENGTH(groups, claims) numbers at least: the marks of the card groups, the shop groups and the
+ *                           claims
+ * day                       0 to 6
+ *
+ * The answer is 0 where the closing is accepted, else the number of the reason why not.
+ */
+typedef uint32_t claims_accept_call(
+    const uint8_t *file, size_t file_length,
+    const uint8_t *choice, size_t choice_length,
+    const uint32_t *sheet, size_t sheet_length,
+    uint32_t day);
+claims_accept_call claims_accept;
+claims_accept_call claims_accept_stored;
+claims_accept_call claims_accept_old;
+claims_accept_call claims_accept_old_stored;
 
 #ifdef __cplusplus
 }

@@ -7,15 +7,15 @@
  *     ./example 5 < samples/week.claims       settles it for day 5
  *
  * How to read it. What stands between these marks is a comment. `#include` brings in the names that another file declares: claims.h has
- * the library's. The program begins at `main` and goes from line to line; `if` and `for` say which lines, and how often. `x[n]` is a list
- * of n cells where it is declared, and cell n of it, counted from 0, elsewhere. `printf` prints a text; each %u in it stands for a number
- * and each %s for a word.
+ * the library's, and words.h has what each refusal means and how a day is read. The program begins at `main` and goes from line to line;
+ * `if` and `for` say which lines, and how often. `x[n]` is a list of n cells where it is declared, and cell n of it, counted from 0,
+ * elsewhere. `printf` prints a text; each %u in it stands for a number and each %s for a word.
  *
  * The exit status is 0 where the file is settled, 1 where it is refused, 2 where there is none to read and 3 where the day is no number.
  */
-#include <stdbool.h>
 #include <stdio.h>
 #include "claims.h"
+#include "words.h"
 
 /*
  * The memory that is lent to the library, enough for every file there can be. It is set aside before the program begins and holds zeros
@@ -27,22 +27,6 @@ static uint8_t codes[CLAIMS_LONGEST_CODES];
 static uint32_t sheet[CLAIMS_LONGEST_SHEET];
 static uint32_t scratch[CLAIMS_LONGEST_SCRATCH];
 
-/* What each refusal means. */
-static const char *const meaning[] = {
-    [CLAIMS_CUT_OFF] = "the file ends before or inside a count or record that is due",
-    [CLAIMS_GROUP_COUNT] = "a group count is over 256",
-    [CLAIMS_PARENT] = "a parent is neither smaller than the group's own number nor 65535",
-    [CLAIMS_CLAIM_COUNT] = "the claim count is over 512",
-    [CLAIMS_NO_SUCH_GROUP] = "a claim names a group that its section lacks",
-    [CLAIMS_KIND] = "a kind is neither 0 nor 1",
-    [CLAIMS_TRAILING] = "bytes follow the last claim",
-    [CLAIMS_SHORT] = "a lent buffer or selection is shorter than needed",
-    [CLAIMS_VALUE] = "a selection byte is over 1, a side is over 1, or a row is not below N",
-    [CLAIMS_SELECTED] = "the row is already in the selection",
-    [CLAIMS_LIMIT_ABOVE] = "a group's limit is above its parent's on any of the seven days",
-    [CLAIMS_DAY] = "the day is over 6",
-};
-
 /* What is said of a row that is turned down, by its code. */
 static const char *const turned_down[] = {
     [CLAIMS_CODE_ORDINARY] = "turned down",
@@ -50,23 +34,6 @@ static const char *const turned_down[] = {
     [CLAIMS_CODE_CARD] = "turned down: raise a card limit",
     [CLAIMS_CODE_REST] = "turned down: raise a shop limit and a card limit",
 };
-
-/*
- * Reads a day from a word: digits alone, and no more than a number of 32 bits holds. Says whether the word is such a number; whether the
- * week has that day is judged by the library.
- */
-static bool read_day(const char *word, uint32_t *day) {
-    uint64_t number = 0;
-    for (size_t at = 0; word[at] != '\0'; at++) {
-        if (word[at] < '0' || word[at] > '9')
-            return false;
-        number = 10 * number + (uint64_t)(word[at] - '0');
-        if (number > UINT32_MAX)
-            return false;
-    }
-    *day = (uint32_t)number;
-    return word[0] != '\0';
-}
 
 int main(int count, char **words) {
     /* This program was written for one version of the library, and may be linked with another. */
@@ -77,7 +44,7 @@ int main(int count, char **words) {
 
     /* The word after the program's own name is the day; where there is none, it is day 0. The file comes by standard input. */
     uint32_t day = 0;
-    if (count > 2 || (count == 2 && !read_day(words[1], &day))) {
+    if (count > 2 || (count == 2 && !day_named(words[1], &day))) {
         fprintf(stderr, "the day has to be one whole number, 0 to 6: %s [DAY] < FILE\n", words[0]);
         return 3;
     }

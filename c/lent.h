@@ -27,7 +27,7 @@ static void fill_lent(void) {
 }
 
 /* Whether the cells from the given places on hold what they held before. */
-static int untouched(size_t choice, size_t sheet, size_t scratch) {
+static inline int untouched(size_t choice, size_t sheet, size_t scratch) {
     for (size_t i = choice; i < CHOICE_CELLS; i++)
         if (lent.choice[i] != (uint8_t)filler(i)) return 0;
     for (size_t i = sheet; i < SHEET_CELLS; i++)

@@ -32,6 +32,16 @@ static unsigned coded_with(const struct day *d, size_t codes_less, size_t scratc
     return r.refusal;
 }
 
+/* Accept is given what settle left, so many cells shorter than the macros say. */
+static unsigned accepted_with(const struct day *d, size_t choice_less, size_t sheet_less) {
+    unsigned groups = d->groups[CARD] + d->groups[SHOP];
+    return by->accept(
+        file.bytes, file.length,
+        choice, CLAIMS_CHOICE_LENGTH(d->rows) - choice_less,
+        sheet, CLAIMS_SHEET_LENGTH(groups, d->rows) - sheet_less,
+        weekday);
+}
+
 /* The other calls, with a selection of that length in which no row is selected. */
 static unsigned ranked_with(size_t length) {
     return by->fits_and_rank(file.bytes, file.length, no_row, length, CLAIMS_CARD, weekday).refusal;
@@ -59,6 +69,8 @@ static void lengths(const struct day *d) {
     write_among(d, form_of(by, weekday), &file);
     expect(file.length == file_length(groups, d->rows), "the length of the file");
     expect(settled_with(d, 0, 0, 0) == 0, "settle with the needed lengths");
+    expect(accepted_with(d, 0, 0) == 0, "accept with the needed lengths");
+    expect(accepted_with(d, 0, 1) == CLAIMS_SHORT, "accept with a sheet one short");
     expect(ranked_with(selection) == 0, "fits and rank with the needed length");
     expect(slip_with(selection, CLAIMS_SLIP_LENGTH(0)) == 0, "the slip with the needed lengths");
     expect(slip_with(selection, CLAIMS_SLIP_LENGTH(0) - 1) == CLAIMS_SHORT, "a slip one short");
@@ -71,6 +83,7 @@ static void lengths(const struct day *d) {
     if (d->rows == 0) return;
     expect(spare_with(selection) == 0, "spare places with the needed length");
     expect(settled_with(d, 1, 0, 0) == CLAIMS_SHORT, "a choice one short");
+    expect(accepted_with(d, 1, 0) == CLAIMS_SHORT, "accept with a choice one short");
     expect(coded_with(d, 1, 0) == CLAIMS_SHORT, "codes one short");
     expect(ranked_with(selection - 1) == CLAIMS_SHORT, "fits and rank with a selection one short");
     expect(slip_with(selection - 1, CLAIMS_LONGEST_SLIP) == CLAIMS_SHORT, "the slip with a selection one short");

@@ -46,10 +46,14 @@ struct told {
     struct claims_write_slip_answer slip;
     struct claims_write_canonical_answer canonical;
     struct claims_write_codes_answer codes;
+    uint32_t accepted;
     struct lent lent;
 };
 
-/* Makes all calls of a sort on a file. They name the weekday, or what stands in its place. */
+/*
+ * Makes all calls of a sort on a file. They name the weekday, or what stands in its place. Accept is given what settle leaves, or nothing
+ * but FILL where settle is refused.
+ */
 static void ask(const struct sort *by, const struct file *f, unsigned weekday, const struct lengths *n, unsigned row, struct told *t) {
     struct lent *l = &t->lent;
     memset(l, FILL, sizeof *l);
@@ -60,6 +64,7 @@ static void ask(const struct sort *by, const struct file *f, unsigned weekday, c
     t->slip = by->write_slip(f->bytes, f->length, selection, n->selection, weekday, l->slip, n->slip);
     t->canonical = by->write_canonical(f->bytes, f->length, l->canonical, n->canonical);
     t->codes = by->write_codes(f->bytes, f->length, weekday, l->codes, n->codes, l->codes_scratch, n->scratch);
+    t->accepted = by->accept(f->bytes, f->length, l->choice, n->choice, l->sheet, n->sheet, weekday);
 }
 
 /* Whether the calls that name a day gave the number alone, and changed nothing. */
@@ -71,7 +76,7 @@ static int calls_gave(const struct told *t, unsigned number) {
         if (t->ranked[side].refusal != number || t->ranked[side].fits != 0 || t->ranked[side].rank != 0) return 0;
     return t->spare.refusal == number && t->spare.places == 0 && t->settled.refusal == number && t->settled.earned == 0 &&
            t->settled.kept == 0 && t->settled.total == 0 && t->slip.refusal == number && t->slip.length == 0 &&
-           t->codes.refusal == number && t->codes.length == 0 && memcmp(&t->lent, &before, sizeof before) == 0;
+           t->codes.refusal == number && t->codes.length == 0 && t->accepted == number && memcmp(&t->lent, &before, sizeof before) == 0;
 }
 
 /* Whether the canonical form, which names no day, did so. */
@@ -130,6 +135,7 @@ static void same_told(const char *what, const struct day *low, const struct told
     expect(a->codes.refusal == 0 && b->codes.refusal == 0 && a->codes.length == b->codes.length, "%s: the codes' number", what);
     expect(memcmp(l->codes, m->codes, sizeof l->codes) == 0, "%s: the codes", what);
     expect(memcmp(l->codes_scratch, m->codes_scratch, sizeof l->codes_scratch) == 0, "%s: the codes' scratch", what);
+    expect(a->accepted == 0 && b->accepted == 0, "%s: accept", what);
 }
 
 /* All calls of the sort that has this layout and is new or stored, on a week. */

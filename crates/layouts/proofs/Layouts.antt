@@ -7,6 +7,7 @@
 --   settles-week                   what settle answers and leaves for the one is what it promises for the other
 --   slip-week                      the slip call answers and leaves the same
 --   codes-week                     what the call for the codes answers and leaves for the one is what it promises for the other
+--   accept-week                    the same is told of a closing of the one and of the other
 use mathlib.Core.Path.{_≡_, refl, sym, ap, ap₂, _∙_, subst, fun-ext}
 use mathlib.Core.Bool.{Bool, false, _&&_}
 use mathlib.Core.Logic.{_↔_}
@@ -14,8 +15,8 @@ use mathlib.Core.List.{List, [], _++_}
 use Prim.Native.Nat.{ℕ, zero, suc, _≤_, _<_}
 use native.Mathlib.Decide.{decLt}
 use native.Mathlib.Omega.{arith}
-use lib.Dec.{leb, eqb}
-use lib.ListN.{getD}
+use lib.Dec.{ltb, leb, eqb}
+use lib.ListN.{length, getD}
 use borrow.Author.Tests.{le-leb}
 use Rattle.theory.specs.Sum.{pick}
 use Rattle.theory.specs.Network.{Instance}
@@ -34,9 +35,11 @@ use Rattle.refusal.specs.declared.Written.{Written}
 use Rattle.refusal.specs.Writing.{turned, written, toldBy}
 use Rattle.limits.specs.Answers.{bits}
 use Rattle.closing.specs.declared.Settled.{Settled}
-use Rattle.closing.specs.Settle.{Lacks, lacks, toldOn, SettlesOn, Settles}
+use Rattle.closing.specs.Settle.{needed, Lacks, lacks, toldOn, SettlesOn, Settles}
 use Rattle.closing.specs.Settle as closing-settle
 use Rattle.closing.proofs.AnswerLaws.{settles-accepted}
+use Rattle.accept.specs.declared.Verdict.the-variants.{Refused}
+use Rattle.accept.specs.Accept.{judged, verdictBy, verdict}
 use Rattle.codes.specs.Write.{Enough, Leaves, answerFor, Writes}
 use Rattle.slip.specs.Slip.{isKept, count, keptRows, firstLine, rowLine, keptLine, keptLines, slip}
 use Rattle.slip.specs.Write as slip-write
@@ -192,3 +195,24 @@ module _
       where
         answers : answerFor (reading f s) s codes u ≡ answerFor (reading g t) t codes u
         answers = ap (λ (x : Reading). answerFor x s codes u) is ∙ ap (λ (x : Reading). answerFor x t codes u) (sym there)
+
+    ----------------------------------------------------------------------------
+    -- Accept
+
+    pub accept-week : (ch sheet : List ℕ) → verdict f s ch sheet ≡ verdict (weekForm f) (asWeek s l) ch sheet
+    unfolding verdict
+    accept-week ch sheet =
+        ap (λ (x : Reading). verdictBy s x ch sheet) is
+        ∙ elim (decLt (l .day) days) [
+          | yes known ↦
+              ap
+              (λ (i : Instance).
+              pick (ltb (length ch) (l .rows)) (Refused Short)
+              (pick (ltb (length sheet) (needed (networkOf s l))) (Refused Short)
+              (pick (leb days (l .day)) (Refused Day) (pick (bits (l .rows) ch) (judged i ch sheet) (Refused Value)))))
+              (same-day known)
+          | no h ↦
+              let over : days ≤ l .day = omega arith in
+              rw (le-leb _ _ over)
+        ]
+        ∙ ap (λ (x : Reading). verdictBy t x ch sheet) (sym there)

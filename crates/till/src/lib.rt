@@ -1,7 +1,7 @@
 // The calls for the till's own program, which is in C: c/claims.h declares them.
 //
-// A slice is passed as a pointer and a length. Each call on a file answers a struct of numbers by value. Only settle, the slip, the
-// canonical form and the codes change lent memory. A call takes a new file in the week layout; of the three beside it the one with `_stored`
+// A slice is passed as a pointer and a length. Each call on a file answers a struct of numbers by value; accept answers one number. Only
+// settle, the slip, the canonical form and the codes change lent memory. A call takes a new file in the week layout; of the three beside it the one with `_stored`
 // in its name takes a stored file, the one with `_old` a file in the old layout, and the one with both a stored file in the old layout.
 ghost use mathlib.Core.Path.{_≡_};
 ghost use Prim.Native.Nat.{_≤_};
@@ -13,7 +13,10 @@ ghost use Rattle.canonical.specs.Write as canonical-write;
 ghost use Rattle.till.specs.Numbers.{rankedNumbers, spareNumbers, FitsAndRankIs, SparePlacesIs};
 ghost use Rattle.till.specs.SettleNumbers.{settledNumbers, SettleIs};
 ghost use Rattle.till.specs.WriteNumbers.{writtenNumbers, WriteIs, CodesAre};
+ghost use Rattle.till.specs.AcceptNumber.{AcceptIs};
 ghost use Rattle.till.specs.Version.{version};
+use accept::accept;
+use accept::verdict_number;
 use canonical::write_canonical;
 use claimfile::Form;
 use closing::Settled;
@@ -28,7 +31,7 @@ use refusal::number;
 use slip::write_slip;
 
 // Which library this is. It rises by one with each change of a call, a needed length or an answer.
-pub const VERSION: u32 = 8;
+pub const VERSION: u32 = 9;
 
 // The refusal's number and zeros where the call is turned away; else 0, 1 where the selection fits and 0 where not, and its rank.
 #[repr(C)]
@@ -599,6 +602,71 @@ pub extern "C" fn claims_write_codes_old_stored(
         day: day as usize,
     };
     write_codes_as(file, form, codes, scratch)
+}
+
+// Accept for a file in a form.
+fn accept_as(file: &[u8], form: Form, choice: &[u8], sheet: &[u32]) -> u32
+    ensures { λ r. ⌜ AcceptIs form (now (file .entry)) (now (choice .entry)) (now (sheet .entry)) r ⌝ }
+{
+    verdict_number(accept(file, form, choice, sheet))
+}
+
+// Whether head office accepts a closing: the choice and the sheet that were sent with a file, however they were made. It answers the
+// number of the refusal, or 0 where the closing is accepted.
+#[no_mangle]
+pub extern "C" fn claims_accept(file: &[u8], choice: &[u8], sheet: &[u32], day: u32) -> u32
+    ensures { λ r. ⌜ AcceptIs (newWeek day) (now (file .entry)) (now (choice .entry)) (now (sheet .entry)) r ⌝ }
+{
+    let form = Form {
+        week: true,
+        stored: false,
+        day: day as usize,
+    };
+    accept_as(file, form, choice, sheet)
+}
+
+// The same for a stored file.
+#[no_mangle]
+pub extern "C" fn claims_accept_stored(file: &[u8], choice: &[u8], sheet: &[u32], day: u32) -> u32
+    ensures { λ r. ⌜ AcceptIs (storedWeek day) (now (file .entry)) (now (choice .entry)) (now (sheet .entry)) r ⌝ }
+{
+    let form = Form {
+        week: true,
+        stored: true,
+        day: day as usize,
+    };
+    accept_as(file, form, choice, sheet)
+}
+
+// The same for a file in the old layout.
+#[no_mangle]
+pub extern "C" fn claims_accept_old(file: &[u8], choice: &[u8], sheet: &[u32], day: u32) -> u32
+    ensures { λ r. ⌜ AcceptIs (newOld day) (now (file .entry)) (now (choice .entry)) (now (sheet .entry)) r ⌝ }
+{
+    let form = Form {
+        week: false,
+        stored: false,
+        day: day as usize,
+    };
+    accept_as(file, form, choice, sheet)
+}
+
+// The same for a stored file in the old layout.
+#[no_mangle]
+pub extern "C" fn claims_accept_old_stored(
+    file: &[u8],
+    choice: &[u8],
+    sheet: &[u32],
+    day: u32,
+) -> u32
+    ensures { λ r. ⌜ AcceptIs (storedOld day) (now (file .entry)) (now (choice .entry)) (now (sheet .entry)) r ⌝ }
+{
+    let form = Form {
+        week: false,
+        stored: true,
+        day: day as usize,
+    };
+    accept_as(file, form, choice, sheet)
 }
 
 // The version, for a box to be asked.

@@ -1,0 +1,46 @@
+/*
+ * Words that example.c and accept.c share: what each refusal means, and the day that a word names. c/example.c says how to read C.
+ */
+#ifndef WORDS_H
+#define WORDS_H
+
+#include <stdbool.h>
+#include "claims.h"
+
+/* What each refusal means, by its number: the words of README's table. */
+static const char *const meaning[] = {
+    [CLAIMS_CUT_OFF] = "the file ends before or inside a count or record that is due",
+    [CLAIMS_GROUP_COUNT] = "a group count is over 256",
+    [CLAIMS_PARENT] = "a parent is neither smaller than the group's own number nor 65535",
+    [CLAIMS_CLAIM_COUNT] = "the claim count is over 512",
+    [CLAIMS_NO_SUCH_GROUP] = "a claim names a group that its section lacks",
+    [CLAIMS_KIND] = "a kind is neither 0 nor 1",
+    [CLAIMS_TRAILING] = "bytes follow the last claim",
+    [CLAIMS_SHORT] = "a lent buffer or selection is shorter than needed",
+    [CLAIMS_VALUE] = "a selection byte is over 1, a side is over 1, or a row is not below N",
+    [CLAIMS_SELECTED] = "the row is already in the selection",
+    [CLAIMS_LIMIT_ABOVE] = "a group's limit is above its parent's on any of the seven days",
+    [CLAIMS_DAY] = "the day is over 6",
+    [CLAIMS_UNFIT] = "the choice does not fit",
+    [CLAIMS_UNCOVERED] = "a claim is not covered",
+    [CLAIMS_UNEQUAL] = "the totals differ",
+};
+
+/*
+ * Reads a day from a word: digits alone, and no more than a number of 32 bits holds. Says whether the word is such a number; whether the
+ * week has that day is judged by the library.
+ */
+static inline bool day_named(const char *word, uint32_t *day) {
+    uint64_t number = 0;
+    for (size_t at = 0; word[at] != '\0'; at++) {
+        if (word[at] < '0' || word[at] > '9')
+            return false;
+        number = 10 * number + (uint64_t)(word[at] - '0');
+        if (number > UINT32_MAX)
+            return false;
+    }
+    *day = (uint32_t)number;
+    return word[0] != '\0';
+}
+
+#endif

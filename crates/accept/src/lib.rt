@@ -1,0 +1,182 @@
+// Which closings head office accepts, however they were made.
+//
+// A closing is a file with a choice and a sheet of marks. `accept` takes any bytes, in a form, and any choice and sheet;
+// `accept_on` does the same for a file that is accepted with a known layout. Nothing is changed. One table has a cell of 16 bits
+// for each group. It takes the prices of the groups, by which the claims are covered or not (`cover`), and then their limits, for
+// the sheet's total (`total`). The cost is rows + groups; the table is all the memory.
+mod cover;
+mod total;
+
+ghost use mathlib.Core.Bool.{true};
+ghost use mathlib.Core.Path.{_≡_};
+ghost use Prim.Native.Nat.{_<_, _≤_};
+ghost use Rattle.theory.specs.Bounds.{maxLimit, cellBound};
+ghost use Rattle.theory.specs.Matroid.{row};
+ghost use Rattle.theory.specs.Network.{fitsBoth};
+ghost use Rattle.claimfile.specs.Day.{groupsOf, parentOf, writtenOf, limitOf, networkOf, instanceOf};
+ghost use Rattle.claimfile.specs.Sound.{Sound};
+ghost use Rattle.claimfile.specs.declared.Reading.the-variants.{Accepted};
+ghost use Rattle.limits.specs.Ready.{Ready};
+ghost use Rattle.accept.specs.Accept.{judged, weightKept, verdictBy, verdictNumber, Judges};
+ghost use Rattle.accept.specs.Judge.{nodes, Judgeable};
+use claimfile::DAYS;
+use claimfile::Form;
+use claimfile::Group;
+use claimfile::Layout;
+use claimfile::Reading;
+use claimfile::group_of;
+use claimfile::read;
+use closing::count_rows;
+use closing::marks_of;
+use cover::is_covered;
+use limits::all_bits;
+use limits::rank_on;
+use refusal::Reason;
+use refusal::number;
+use tables::write::above;
+use theory::MAX_GROUPS;
+use total::total_of;
+
+const CARD_SIDE: usize = 0;
+
+const SHOP_SIDE: usize = 1;
+
+// A cell for each group of both sides, and one for each root.
+const NODES: usize = 2 * MAX_GROUPS + 2;
+
+// What is found of a closing: it is accepted, or why not.
+pub enum Verdict {
+    Accepted,
+    Refused(Reason),
+}
+
+// A mark, a size and a cell of the table as numbers of 64 bits.
+fn wide(x: u32) -> u64
+    ensures { λ r. ⌜ (r ≡ x) × (r < cellBound) ⌝ }
+{
+    x as u64
+}
+
+fn long(x: usize) -> u64
+    ensures { λ r. ⌜ r ≡ x ⌝ }
+{
+    x as u64
+}
+
+fn cell(x: u16) -> u64
+    ensures { λ r. ⌜ (r ≡ x) × (r ≤ maxLimit) ⌝ }
+{
+    x as u64
+}
+
+// The group at a node: the node above it, and the limit in its record.
+fn node_at(file: &[u8], layout: Layout, v: usize) -> Group
+    requires { ⌜ (Sound (now file) layout) × (v < groupsOf layout) ⌝ }
+    ensures { λ r. ⌜ (r .parent ≡ parentOf (now (file .entry)) layout v) × (r .limit ≡ writtenOf (now (file .entry)) layout v) × (r .parent < nodes) × (r .limit < 65536) ⌝ }
+{
+    let cards = layout.cards;
+    let groups = cards + layout.shops;
+    if v < cards {
+        let card = group_of(file, layout, CARD_SIDE, v);
+        return Group {
+            parent: above(v, card.parent, 0, groups),
+            limit: card.limit,
+        };
+    }
+    let own = v - cards;
+    let shop = group_of(file, layout, SHOP_SIDE, own);
+    Group {
+        parent: above(own, shop.parent, cards, groups + 1),
+        limit: shop.limit,
+    }
+}
+
+// The weight of the kept rows.
+fn weight_kept(file: &[u8], layout: Layout, choice: &[u8]) -> u64
+    requires { ⌜ Ready (now file) (now choice) layout ⌝ }
+    ensures { λ r. ⌜ r ≡ weightKept (instanceOf (now (file .entry)) layout) (now (choice .entry)) ⌝ }
+{
+    let counts = count_rows(file, layout, choice);
+    let earned = counts.earned;
+    let rows = layout.rows;
+    long(rows * earned + counts.kept)
+}
+
+// Whether a choice fits both sides.
+fn fits_both(file: &[u8], layout: Layout, choice: &[u8]) -> bool
+    requires { ⌜ Ready (now file) (now choice) layout ⌝ }
+    ensures { λ r. ⌜ r ≡ fitsBoth (networkOf (now (file .entry)) layout) (limitOf (now (file .entry)) layout) (row (now (choice .entry))) ⌝ }
+{
+    let card = rank_on(file, layout, CARD_SIDE, choice);
+    let shop = rank_on(file, layout, SHOP_SIDE, choice);
+    card.fits & shop.fits
+}
+
+// Judges the sheet of a closing whose choice fits.
+fn judge_sheet(file: &[u8], layout: Layout, choice: &[u8], sheet: &[u32]) -> Verdict
+    requires { ⌜ (Judgeable (now file) layout (now choice) (now sheet)) × (fitsBoth (networkOf (now file) layout) (limitOf (now file) layout) (row (now choice)) ≡ true) ⌝ }
+    ensures { λ r. ⌜ r ≡ judged (instanceOf (now (file .entry)) layout) (now (choice .entry)) (now (sheet .entry)) ⌝ }
+{
+    let mut cells = [0u16; NODES];
+    if !is_covered(file, layout, sheet, &mut cells) {
+        return Verdict::Refused(Reason::Uncovered);
+    }
+    if total_of(file, layout, sheet, &mut cells) != weight_kept(file, layout, choice) {
+        return Verdict::Refused(Reason::Unequal);
+    }
+    Verdict::Accepted
+}
+
+// Judges the closing of an accepted file.
+fn judge(file: &[u8], layout: Layout, choice: &[u8], sheet: &[u32]) -> Verdict
+    requires { ⌜ Judgeable (now file) layout (now choice) (now sheet) ⌝ }
+    ensures { λ r. ⌜ r ≡ judged (instanceOf (now (file .entry)) layout) (now (choice .entry)) (now (sheet .entry)) ⌝ }
+{
+    if fits_both(file, layout, choice) {
+        return judge_sheet(file, layout, choice, sheet);
+    }
+    Verdict::Refused(Reason::Unfit)
+}
+
+// Judges a choice and a sheet that were sent with an accepted file.
+pub fn accept_on(file: &[u8], layout: Layout, choice: &[u8], sheet: &[u32]) -> Verdict
+    requires { ⌜ Sound (now file) layout ⌝ }
+    ensures { λ r. ⌜ r ≡ verdictBy (now (file .entry)) (Accepted layout) (now (choice .entry)) (now (sheet .entry)) ⌝ }
+{
+    let rows = layout.rows;
+    let marks = marks_of(layout);
+    if choice.len() < rows {
+        return Verdict::Refused(Reason::Short);
+    }
+    if sheet.len() < marks {
+        return Verdict::Refused(Reason::Short);
+    }
+    if DAYS <= layout.day {
+        return Verdict::Refused(Reason::Day);
+    }
+    if all_bits(choice, rows) {
+        return judge(file, layout, choice, sheet);
+    }
+    Verdict::Refused(Reason::Value)
+}
+
+// Judges a closing: a file in a form, with the choice and the sheet that were sent with it.
+pub fn accept(file: &[u8], form: Form, choice: &[u8], sheet: &[u32]) -> Verdict
+    ensures { λ r. ⌜ Judges form (now (file .entry)) (now (choice .entry)) (now (sheet .entry)) r ⌝ }
+{
+    let reading = read(file, form);
+    match reading {
+        Reading::Refused(why) => Verdict::Refused(Reason::File(why)),
+        Reading::Accepted(layout) => accept_on(file, layout, choice, sheet),
+    }
+}
+
+// The number of a verdict: that of the refusal, or 0 where the closing is accepted.
+pub fn verdict_number(verdict: Verdict) -> u32
+    ensures { λ r. ⌜ r ≡ verdictNumber verdict ⌝ }
+{
+    match verdict {
+        Verdict::Accepted => 0,
+        Verdict::Refused(why) => number(why),
+    }
+}
