@@ -506,6 +506,32 @@ static void raised_alone(const struct day *d, const uint8_t *codes) {
     }
 }
 
+/* A day of three rows has these codes, and these rows are kept, before and after the limit of shop group 0 is raised by one. */
+static void shelf_raised(struct day d, const char *must_codes, const char *before, const char *after, const char *what) {
+    uint8_t codes[MOST_ROWS], choice[MOST_ROWS];
+    write_codes(&d, 0, codes, what);
+    settle(&d, choice);
+    expect(memcmp(codes, must_codes, 3) == 0 && memcmp(choice, before, 3) == 0, "%s: the codes, and the rows kept", what);
+    d.limit[SHOP][0]++;
+    settle(&d, choice);
+    expect(memcmp(choice, after, 3) == 0, "%s: the rows kept with a raised shelf", what);
+}
+
+/*
+ * What one side alone can do for rows with code 3. In the first day rows 0 and 1 share a shelf of limit 1, and rows 1 and 2 a card group of
+ * limit 1: a raised shelf keeps row 1 in the place of row 2, and as many rows. In the second row 2 counts in a card group of limit 0: a
+ * raised shelf keeps one row more, which has code 1, and not row 2.
+ */
+static void one_side_alone(void) {
+    struct day swapped = flat_day(4, 1, 2, 1), another = flat_day(3, 0, 1, 1);
+    swapped.parent[CARD][1] = 0, swapped.parent[CARD][3] = 2;
+    add_row(&swapped, 1, 0, 1), add_row(&swapped, 3, 0, 1), add_row(&swapped, 3, 1, 1);
+    shelf_raised(swapped, "\3\3\3", "\1\0\1", "\1\1\0", "a row with code 3 in the place of another");
+    another.parent[CARD][1] = 0, another.limit[CARD][2] = 5;
+    add_row(&another, 2, 0, 1), add_row(&another, 2, 0, 1), add_row(&another, 1, 0, 1);
+    shelf_raised(another, "\1\1\3", "\1\0\0", "\1\1\0", "one row more, with another code");
+}
+
 /* A stored day is taken lowered, so that the limits that are raised are those that count. */
 static void limits_raised(void) {
     for (unsigned n = 0; n < 750; n++) {
@@ -606,6 +632,7 @@ int main(void) {
         part_done("small days, from every largest choice");
         larger_days();
         part_done("larger days");
+        one_side_alone();
         limits_raised();
         part_done("limits raised");
     }

@@ -14,7 +14,7 @@ use Prim.Native.Nat.{ℕ, _+_, _*_, min, _≤_, _<_}
 use native.Mathlib.Nat.{mul-le-mul}
 use native.Mathlib.Decide.{ℕ-discrete, decLt}
 use native.Mathlib.Omega.{arith}
-use lib.ListN.{length, set, replicate, length-set, length-replicate, getD-replicate, List·getD-eq-default}
+use lib.ListN.{length, set, replicate, length-set, length-replicate}
 use lib.Seq.{getD-set-same, getD-set-other}
 use Rattle.theory.specs.Bounds.{maxGroups, maxLimit, cellBound}
 use Rattle.theory.specs.Lowered.{lesser}
@@ -27,19 +27,12 @@ use Rattle.claimfile.specs.Sound.{Sound}
 use Rattle.claimfile.specs.declared.Group.{Group}
 use Rattle.claimfile.specs.declared.Layout.{Layout}
 use Rattle.claimfile.proofs.DayLaws.{parent-on, written-on, day-down, sound-formed}
+use Rattle.limits.proofs.CountLaws.{zero-cell}
 use Rattle.closing.specs.Settle.{markOf}
 use Rattle.accept.specs.Judge.{nodes, mostProduct, Zeros, priceOf, Priced, Lowers}
 
 pub zeros : (n : ℕ) → nodes ≤ n → Zeros (replicate n 0)
-zeros n h =
-    record {
-      long = omega (arith, length-replicate {A = ℕ} n 0);
-      zero = λ i.
-          elim (decLt i n) [
-            | yes l ↦ getD-replicate {A = ℕ} n i 0 0 l
-            | no l ↦ List·getD-eq-default {A = ℕ} (replicate n 0) 0 (omega (arith, length-replicate {A = ℕ} n 0))
-          ];
-    }
+zeros n h = record { long = omega (arith, length-replicate {A = ℕ} n 0); zero = zero-cell n }
 
 -- a cell after a store
 stored :

@@ -1,8 +1,9 @@
 // The calls for the till's own program, which is in C: c/claims.h declares them.
 //
 // A slice is passed as a pointer and a length. Each call on a file answers a struct of numbers by value; accept answers one number. Only
-// settle, the slip, the canonical form and the codes change lent memory. A call takes a new file in the week layout; of the three beside it the one with `_stored`
-// in its name takes a stored file, the one with `_old` a file in the old layout, and the one with both a stored file in the old layout.
+// settle, the slip, the canonical form and the codes change lent memory. A call takes a new file in the week layout; of the three beside it
+// the one with `_stored` in its name takes a stored file, the one with `_old` a file in the old layout, and the one with both a stored file
+// in the old layout.
 ghost use mathlib.Core.Path.{_≡_};
 ghost use Prim.Native.Nat.{_≤_};
 ghost use Rattle.theory.specs.Bounds.{maxRows, maxLimit};
