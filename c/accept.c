@@ -11,8 +11,8 @@
  * row's byte or mark is not read.
  *
  * It prints one line: `accepted`, or `refused`, the number and what it means. The exit status is 0 where the closing is accepted, 1 where
- * it is refused, and 2 where it could not be judged: a word is missing or wrong, or a file cannot be read. What is wrong then stands on
- * the standard error output.
+ * it is refused, and 2 where it could not be judged: a word is missing or wrong, a file cannot be read, the sheet's length is no multiple
+ * of four, the library has another version, or the answer cannot be written. What is wrong then stands on the standard error output.
  *
  * How to read it: c/example.c says so. `fopen` opens a named file, `fread` reads bytes from it, and `exit` ends the program.
  */
@@ -23,7 +23,7 @@
 #include "claims.h"
 #include "words.h"
 
-enum { ACCEPTED = 0, REFUSED = 1, NOT_JUDGED = 2, MARK = 4 };
+enum { ACCEPTED = 0, REFUSED = 1, NOT_JUDGED = 2, MARK = 4, MOST_BYTES = 1 << 20 };
 
 /* The closing, with room for the longest one. The file has one byte more, so that a file that is too long is seen. */
 static uint8_t file[CLAIMS_LONGEST_FILE + 1];
@@ -36,7 +36,6 @@ static const struct {
     const char *word;
     claims_accept_call *accept;
 } sorts[] = {
-    {"", claims_accept},
     {"stored", claims_accept_stored},
     {"old", claims_accept_old},
     {"old_stored", claims_accept_old_stored},
@@ -55,27 +54,29 @@ static void unreadable(const char *name) {
     exit(NOT_JUDGED);
 }
 
-/* Reads the first bytes of a named file into a buffer, at most so many, and answers how many bytes the file has. */
-static size_t read_into(const char *name, uint8_t *into, size_t most) {
+/* Reads the first bytes of a named file into a buffer, as many as it has room for. Answers the file's length, counted up to `most`. */
+static size_t read_into(const char *name, uint8_t *into, size_t room, size_t most) {
     FILE *from = fopen(name, "rb");
     if (from == NULL) unreadable(name);
-    size_t length = fread(into, 1, most, from);
-    while (length >= most && getc(from) != EOF) length++;
+    size_t length = fread(into, 1, room, from);
+    while (length >= room && length < most && getc(from) != EOF) length++;
     if (ferror(from)) unreadable(name);
     fclose(from);
     return length;
 }
 
-static size_t lesser(size_t a, size_t b) { return a < b ? a : b; }
-
-/* Reads the marks, and answers how many there are. */
+/* Reads the marks, and answers how many there are. A longer sheet is accepted, but its bytes have to be marks too. */
 static size_t read_sheet(const char *name) {
-    size_t length = read_into(name, marks, sizeof marks);
+    size_t length = read_into(name, marks, sizeof marks, MOST_BYTES + 1);
+    if (length > MOST_BYTES) {
+        fprintf(stderr, "%s has more than %d bytes, and no day needs such a sheet\n", name, MOST_BYTES);
+        exit(NOT_JUDGED);
+    }
     if (length % MARK != 0) {
         fprintf(stderr, "%s has %zu bytes, and a sheet has %d for each mark\n", name, length, MARK);
         exit(NOT_JUDGED);
     }
-    size_t count = lesser(length / MARK, CLAIMS_LONGEST_SHEET);
+    size_t count = length < sizeof marks ? length / MARK : CLAIMS_LONGEST_SHEET;
     for (size_t i = 0; i < count; i++) {
         const uint8_t *at = marks + MARK * i;
         sheet[i] = at[0] | (uint32_t)at[1] << 8 | (uint32_t)at[2] << 16 | (uint32_t)at[3] << 24;
@@ -83,11 +84,14 @@ static size_t read_sheet(const char *name) {
     return count;
 }
 
-/* Two refusals mean less here than in general. */
-static const char *means(uint32_t refusal) {
-    if (refusal == CLAIMS_SHORT) return "the choice or the sheet is shorter than needed";
-    if (refusal == CLAIMS_VALUE) return "a choice byte is over 1";
-    return meaning[refusal];
+/* Prints a refusal. Two of them have narrower words here, and where the choice or the sheet is short, their lengths follow. */
+static void print_refusal(uint32_t refusal, size_t rows, size_t mark_count) {
+    const char *means = meaning[refusal];
+    if (refusal == CLAIMS_SHORT) means = "the choice or the sheet is shorter than needed";
+    if (refusal == CLAIMS_VALUE) means = "a choice byte is over 1";
+    printf("refused %u: %s", (unsigned)refusal, means);
+    if (refusal == CLAIMS_SHORT) printf(" (the choice has %zu bytes, the sheet %zu marks)", rows, mark_count);
+    puts("");
 }
 
 int main(int count, char **words) {
@@ -100,22 +104,25 @@ int main(int count, char **words) {
         return NOT_JUDGED;
     }
 
-    claims_accept_call *accept = sort_of(count == 6 ? words[5] : "");
+    claims_accept_call *accept = count == 6 ? sort_of(words[5]) : claims_accept;
     uint32_t day;
     if (!day_named(words[4], &day)) {
         fprintf(stderr, "the day has to be one whole number, 0 to 6, and not '%s'\n", words[4]);
         return NOT_JUDGED;
     }
-    size_t length = lesser(read_into(words[1], file, sizeof file), sizeof file);
-    size_t rows = lesser(read_into(words[2], choice, sizeof choice), sizeof choice);
+    size_t length = read_into(words[1], file, sizeof file, sizeof file);
+    size_t rows = read_into(words[2], choice, sizeof choice, sizeof choice);
     size_t mark_count = read_sheet(words[3]);
 
     /* The call: file, choice and sheet with their lengths, and the day. It answers a number and changes nothing. */
     uint32_t refusal = accept(file, length, choice, rows, sheet, mark_count, day);
-    if (refusal != 0) {
-        printf("refused %u: %s\n", (unsigned)refusal, means(refusal));
-        return REFUSED;
+    if (refusal != 0)
+        print_refusal(refusal, rows, mark_count);
+    else
+        puts("accepted");
+    if (fflush(stdout) != 0) {
+        fprintf(stderr, "the answer cannot be written: %s\n", strerror(errno));
+        return NOT_JUDGED;
     }
-    puts("accepted");
-    return ACCEPTED;
+    return refusal != 0 ? REFUSED : ACCEPTED;
 }

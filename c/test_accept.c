@@ -95,6 +95,17 @@ static void settle(const struct day *d) {
     expect(refusal == 0, "%s: settle refuses a day with %u", by->name, refusal);
 }
 
+/* Days without claims: nothing is needed where there is no group either; and the mark of a group with places counts in the total. */
+static void no_claims(void) {
+    struct day none = flat_day(0, 0, 0, 0), groups = flat_day(3, 2, 2, 2);
+    write_day(&none, by->layout, &file);
+    expect(accepted(&none) == 0, "%s: no group and no claim", by->name);
+    settle(&groups);
+    expect(accepted(&groups) == 0, "%s: groups and no claim", by->name);
+    lent.sheet[4] = 1;
+    expect(accepted(&groups) == CLAIMS_UNEQUAL, "%s: a mark too many", by->name);
+}
+
 /* ---- The order in which faults are told ---- */
 
 static void set_choice(unsigned a, unsigned b, unsigned c) {
@@ -291,6 +302,7 @@ int main(void) {
     start_numbers(20270310);
     for (by = sorts; by < sorts + SORTS; by++) {
         other_choices = other_sheets = 0;
+        no_claims();
         faults_in_order();
         random_days(500, 6, 12, closings);
         random_days(90, 60, 120, closings);
