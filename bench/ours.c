@@ -1,10 +1,10 @@
 /* The library's calls. No other file here names them, except the table of sorts.h. */
 #include "ours.h"
 
-static uint32_t sheet[MOST_MARKS], scratch[8 * MOST_MARKS];
+static uint32_t sheet[MOST_MARKS], scratch[CLAIMS_LONGEST_SCRATCH];
 
 static void settle_by(claims_settle_call *settle, unsigned weekday, const uint8_t *file, size_t length, struct outcome *out) {
-    struct claims_settle_answer r = settle(file, length, weekday, out->choice, MOST_ROWS, sheet, MOST_MARKS, scratch, 8 * MOST_MARKS);
+    struct claims_settle_answer r = settle(file, length, weekday, out->choice, MOST_ROWS, sheet, MOST_MARKS, scratch, CLAIMS_LONGEST_SCRATCH);
     out->refusal = r.refusal;
     out->earned = (unsigned)r.earned;
     out->kept = (unsigned)r.kept;
@@ -17,7 +17,7 @@ void ours_settle_by(const struct sort *by, unsigned weekday, const struct file *
 }
 
 unsigned ours_codes(const uint8_t *file, size_t length, uint8_t *codes) {
-    return claims_write_codes(file, length, 0, codes, MOST_ROWS, scratch, 8 * MOST_MARKS).refusal;
+    return claims_write_codes(file, length, 0, codes, MOST_ROWS, scratch, CLAIMS_LONGEST_SCRATCH).refusal;
 }
 
 /* With no memory lent, settle judges the file and then answers that the memory is short; with no group and no row none is needed. */
@@ -46,7 +46,7 @@ enum { DAY_NAMED = WEEKDAYS - 1 };
 static void make_settle(const struct sort *by, const struct file *day, const uint8_t *selection) {
     static uint8_t choice[MOST_ROWS];
     (void)selection;
-    by->settle(day->bytes, day->length, DAY_NAMED, choice, MOST_ROWS, sheet, MOST_MARKS, scratch, 8 * MOST_MARKS);
+    by->settle(day->bytes, day->length, DAY_NAMED, choice, MOST_ROWS, sheet, MOST_MARKS, scratch, CLAIMS_LONGEST_SCRATCH);
 }
 
 static void make_fits_and_rank(const struct sort *by, const struct file *day, const uint8_t *selection) {
@@ -71,7 +71,7 @@ static void make_canonical(const struct sort *by, const struct file *day, const 
 static void make_codes(const struct sort *by, const struct file *day, const uint8_t *selection) {
     static uint8_t codes[CLAIMS_LONGEST_CODES];
     (void)selection;
-    by->write_codes(day->bytes, day->length, DAY_NAMED, codes, CLAIMS_LONGEST_CODES, scratch, 8 * MOST_MARKS);
+    by->write_codes(day->bytes, day->length, DAY_NAMED, codes, CLAIMS_LONGEST_CODES, scratch, CLAIMS_LONGEST_SCRATCH);
 }
 
 /* With the selection as the choice, and the sheet that settle left for the day. */

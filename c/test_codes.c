@@ -139,8 +139,6 @@ static void by_ranks(const struct day *d, const uint8_t *choice, const uint8_t *
 
 /* ---- The call ---- */
 
-static size_t cells_of(const struct day *d) { return 8 * (d->groups[CARD] + d->groups[SHOP] + d->rows); }
-
 /* Writes the codes of the file, with buffers of so many cells. The choice of c/lent.h is the code buffer; its sheet is not lent. */
 static struct claims_write_codes_answer write_in(size_t codes, size_t scratch) {
     fill_lent();

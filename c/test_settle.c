@@ -22,11 +22,9 @@ static struct claims_settle_answer settle_in(size_t choice, size_t sheet, size_t
     return by->settle(file.bytes, file.length, weekday, lent.choice, choice, lent.sheet, sheet, lent.scratch, scratch);
 }
 
-static size_t marks_of(const struct day *d) { return d->groups[CARD] + d->groups[SHOP] + d->rows; }
-
 /* Settles the file of a day, with buffers longer than needed by `more` cells. */
 static struct claims_settle_answer settle_file(const struct day *d, size_t more) {
-    return settle_in(d->rows + more, marks_of(d) + more, 8 * marks_of(d) + more);
+    return settle_in(d->rows + more, marks_of(d) + more, cells_of(d) + more);
 }
 
 /* Settles a file that holds a day on the weekday. */
@@ -38,14 +36,13 @@ static struct claims_settle_answer settle(const struct day *d, size_t more) {
 /* Everything that settle leaves besides which rows are kept. The marks are those of the lowered limits. */
 static int left_well(const struct day *d, struct claims_settle_answer r) {
     struct day low = lowered(d);
-    size_t marks = marks_of(d);
     for (unsigned c = 0; c < d->rows; c++)
         if (lent.choice[c] > 1) return 0;
-    for (size_t i = 0; i < 8 * marks; i++)
+    for (size_t i = 0; i < cells_of(d); i++)
         if (lent.scratch[i] != 0) return 0;
     return r.refusal == 0 && r.earned == count_rows(d, lent.choice, 1) && r.kept == count_rows(d, lent.choice, 0) &&
            r.total == worth_of(d, lent.choice) && certified(&low, 2, lent.choice, lent.sheet) && fits_day(d, lent.choice) &&
-           untouched(d->rows, marks, 8 * marks);
+           untouched(d->rows, marks_of(d), cells_of(d));
 }
 
 /* The number is told, and zeros beside it, and no buffer is changed. */
@@ -256,7 +253,7 @@ static void large_days(void) {
         expect(file.length == (by->layout == WEEK ? MOST_FILE : MOST_OLD_FILE), "the longest file");
         expect(left_well(&d, r), "a day of the largest size");
         file.bytes[file.length++] = 0;
-        expect(turned_away(settle_in(MOST_ROWS, MOST_MARKS, 8 * MOST_MARKS), CLAIMS_TRAILING), "one byte too many");
+        expect(turned_away(settle_in(MOST_ROWS, MOST_MARKS, CLAIMS_LONGEST_SCRATCH), CLAIMS_TRAILING), "one byte too many");
     }
 }
 

@@ -15,7 +15,7 @@ use claimfile::Form;
 use claimfile::Layout;
 use claimfile::Reading;
 use claimfile::read;
-use closing::marks_of;
+use closing::scratch_of;
 use find::find_codes;
 use refusal::Reason;
 use refusal::Written;
@@ -60,7 +60,7 @@ pub fn write_codes_on(file: &[u8], layout: Layout, codes: &mut [u8], scratch: &m
     ensures { λ r. ⌜ WritesOn (instanceOf (now (file .entry)) layout) (layout .day) (now (codes .entry)) (now (scratch .entry)) (now (codes .exit)) (now (scratch .exit)) r ⌝ }
 {
     let rows = layout.rows;
-    let cells = 8 * marks_of(layout);
+    let cells = scratch_of(layout);
     if codes.len() < rows {
         return Written::Refused(Reason::Short);
     }

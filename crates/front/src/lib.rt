@@ -9,6 +9,7 @@ ghost use Prim.Native.Nat.{_+_, _*_};
 ghost use lib.ListN.{length};
 ghost use Rattle.theory.specs.Bounds.{maxGroups, maxRows};
 ghost use Rattle.claimfile.specs.Written.{lengthFor};
+ghost use Rattle.closing.specs.Settle.{cellsFor};
 ghost use Rattle.printout.specs.Printout.{longestText};
 
 // The lengths that the largest day needs.
@@ -38,7 +39,7 @@ fn sheet_buffer() -> [u32; SHEET]
 }
 
 fn scratch_buffer() -> [u32; SCRATCH]
-    ensures { λ r. ⌜ 8 * (2 * maxGroups + maxRows) ≡ length r ⌝ }
+    ensures { λ r. ⌜ cellsFor (2 * maxGroups) maxRows ≡ length r ⌝ }
 {
     [0; SCRATCH]
 }
