@@ -58,7 +58,7 @@ extern "C" {
  * The version: which library this header describes. It rises by one with each release that changes a call, a needed length or an answer.
  * claims_version() tells the version of the library that a program is linked with.
  */
-#define CLAIMS_VERSION 9u
+#define CLAIMS_VERSION 10u
 
 /* The most that a file may hold. */
 #define CLAIMS_MOST_GROUPS 256u       /* in one section, card groups or shop groups */
@@ -81,7 +81,7 @@ extern "C" {
 #define CLAIMS_SELECTION_LENGTH(claims) (claims)
 #define CLAIMS_CHOICE_LENGTH(claims) (claims)
 #define CLAIMS_SHEET_LENGTH(groups, claims) ((groups) + (claims))
-#define CLAIMS_SCRATCH_LENGTH(groups, claims) (8u * ((groups) + (claims)))
+#define CLAIMS_SCRATCH_LENGTH(groups, claims) (6u * (groups) + 3u * (claims))
 #define CLAIMS_SLIP_LENGTH(kept) (33u * ((kept) + 1u))
 #define CLAIMS_CANONICAL_LENGTH(groups, claims) CLAIMS_FILE_LENGTH(groups, claims)
 #define CLAIMS_CODES_LENGTH(claims) (claims)
@@ -90,7 +90,7 @@ extern "C" {
 #define CLAIMS_LONGEST_SELECTION 512u
 #define CLAIMS_LONGEST_CHOICE 512u
 #define CLAIMS_LONGEST_SHEET 1024u
-#define CLAIMS_LONGEST_SCRATCH 8192u
+#define CLAIMS_LONGEST_SCRATCH 4608u
 #define CLAIMS_LONGEST_SLIP 16929u
 #define CLAIMS_LONGEST_CANONICAL 10758u
 #define CLAIMS_LONGEST_CODES 512u
@@ -234,7 +234,7 @@ claims_spare_places_call claims_spare_places_old_stored;
  * day                       0 to 6
  * choice, choice_length     N bytes at least: afterwards 1 for each kept row and 0 for each other row
  * sheet, sheet_length       G + N numbers at least: afterwards the marks, of the card groups, the shop groups and the claims
- * scratch, scratch_length   8 * (G + N) numbers at least: afterwards zero
+ * scratch, scratch_length   6 * G + 3 * N numbers at least: afterwards zero
  */
 typedef struct claims_settle_answer claims_settle_call(
     const uint8_t *file, size_t file_length,

@@ -144,7 +144,7 @@ static void short_buffers(void) {
     struct day a = day_a();
     write_day(&a, by->layout, &file);
     for (int one = 0; one < 3; one++) {
-        size_t have[3] = {3, 7, 56};
+        size_t have[3] = {3, 7, 33};
         have[one]--;
         expect(turned_away(settle_in(have[0], have[1], have[2]), CLAIMS_SHORT), "a buffer one short");
     }
@@ -161,12 +161,12 @@ static void no_such_day(void) {
         expect(turned_away(settle(&a, 0), CLAIMS_DAY), "day %u", weekday);
         expect(turned_away(settle(&a, PAST), CLAIMS_DAY), "day %u, longer buffers", weekday);
         for (int one = 0; one < 3; one++) {
-            size_t have[3] = {3, 7, 56};
+            size_t have[3] = {3, 7, 33};
             have[one]--;
             expect(turned_away(settle_in(have[0], have[1], have[2]), CLAIMS_SHORT), "day %u, a buffer one short", weekday);
         }
         file.bytes[file.length++] = 0;
-        expect(turned_away(settle_in(3, 7, 56), CLAIMS_TRAILING), "day %u, one byte too many", weekday);
+        expect(turned_away(settle_in(3, 7, 33), CLAIMS_TRAILING), "day %u, one byte too many", weekday);
     }
 }
 

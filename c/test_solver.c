@@ -8,7 +8,8 @@ uint32_t probe_solve(uint32_t cards, uint32_t top, const uint32_t *groups, size_
                      size_t rows_length, uint8_t *choice, size_t choice_length, uint32_t *sheet, size_t sheet_length,
                      uint32_t *scratch, size_t scratch_length);
 
-enum { SMALL_ROWS = 10, HIGHEST = 1000000000 };
+/* The most places that a group has in the tables: one more than there can be rows, which is as good as any more. */
+enum { SMALL_ROWS = 10, HIGHEST = 1000000000, MOST_SPARE = MOST_ROWS + 1 };
 
 /*
  * The tables of a day as the solver has them: the parents of all groups and then their limits; the card nodes of all rows, their shop
@@ -30,7 +31,7 @@ static void fill_tables(const struct day *d) {
     for (unsigned side = 0; side < 2; side++) {
         for (unsigned g = 0; g < d->groups[side]; g++) {
             tables.groups[node_of(d, side, g)] = node_of(d, side, d->parent[side][g]);
-            tables.groups[groups_of(d) + node_of(d, side, g)] = d->limit[side][g];
+            tables.groups[groups_of(d) + node_of(d, side, g)] = d->limit[side][g] < MOST_SPARE ? d->limit[side][g] : MOST_SPARE;
         }
         for (unsigned c = 0; c < d->rows; c++) tables.rows[side * d->rows + c] = node_of(d, side, counts_from(d, side, c));
     }
@@ -39,7 +40,7 @@ static void fill_tables(const struct day *d) {
 }
 
 /* How many cells of scratch the solver needs. */
-static size_t cells(const struct day *d) { return 6 * groups_of(d) + 5 * d->rows + 7; }
+static size_t cells(const struct day *d) { return 4 * groups_of(d) + 3 * d->rows + 4; }
 
 /* Solves the tables, with scratch longer than needed by `more` cells. */
 static uint32_t solve(const struct day *d, unsigned kinds, size_t more) {
@@ -72,7 +73,7 @@ static void draw_row(struct day *d, unsigned card_rarely, unsigned shop_rarely, 
 static struct day small(unsigned kinds) {
     struct day d = {0};
     unsigned rarely = below(3) ? 0 : 3;
-    for (unsigned side = 0; side < 2; side++) draw_side(&d, side, below(6), 1 + below(5));
+    for (unsigned side = 0; side < 2; side++) draw_side(&d, side, side == CARD ? 1 + below(5) : below(6), 1 + below(5));
     for (unsigned n = below(SMALL_ROWS + 1); n > 0; n--) {
         unsigned last = d.rows - 1;
         if (d.rows && below(4) == 0)
@@ -97,7 +98,7 @@ static void small_days(void) {
         against_search(&two, 2, "a random day of two kinds");
         against_search(&four, 4, "a random day of four kinds");
     }
-    struct day nothing = flat_day(0, 0, 0, 0), none = flat_day(3, 1, 2, 1), top = nothing;
+    struct day none = flat_day(3, 1, 2, 1), top = flat_day(1, 0, 1, 0);
     struct day shut = flat_day(2, 0, 2, 0), same = flat_day(2, 4, 1, 4), wide = flat_day(2, TOP, 2, TOP);
     hang_chains(&same, CARD, 1);
     for (unsigned c = 0; c < SMALL_ROWS; c++) {
@@ -106,7 +107,6 @@ static void small_days(void) {
         add_row(&same, 1, 0, 3);
         add_row(&wide, c % 2, c % 2, c % 2);
     }
-    against_search(&nothing, 2, "no groups and no rows");
     against_search(&none, 4, "groups and no rows");
     against_search(&top, 2, "every row in no group");
     against_search(&shut, 2, "every limit 0");
@@ -217,7 +217,7 @@ static void ill_formed(void) {
     changed(parent + 3, 6, "a shop group at the source");
     changed(parent + 4, 2, "a shop group under a card group");
     changed(parent + 2, 8, "a parent past the roots");
-    changed(limit + 5, TOP + 1, "a limit past the largest");
+    changed(limit + 5, MOST_SPARE + 1, "a limit past the largest");
     changed(card + 0, 3, "a row whose card is a shop group");
     changed(card + 3, 7, "a row whose card is the sink");
     changed(shop + 0, 2, "a row whose shop is a card group");
@@ -247,6 +247,8 @@ static void lengths(void) {
             expect(solve_in(cards, top, have) == 1 && untouched(0, 0, 0), "a buffer of another length");
             have[one] -= (size_t)by;
         }
+    fill_tables(&d);
+    expect(solve_in(0, top, (size_t[BUFFERS]){0, 12, 4, 4, cells(&d)}) == 1 && untouched(0, 0, 0), "no group");
     fill_tables(&d);
     expect(solve_in(7, top, have) == 1 && untouched(0, 0, 0), "more card groups than groups");
     fill_tables(&d);

@@ -32,3 +32,4 @@ pub mod ClassLaws
 pub mod FlipLaws
 pub mod WalkLaws
 pub mod AlikeLaws
+pub mod CappedLaws

@@ -14,6 +14,7 @@ pub mod Sheet
 pub mod Bounds
 pub mod Spare
 pub mod Lowered
+pub mod Capped
 pub mod Search
 pub mod Chain
 pub mod Formed

@@ -32,7 +32,7 @@ use refusal::number;
 use slip::write_slip;
 
 // Which library this is. It rises by one with each change of a call, a needed length or an answer.
-pub const VERSION: u32 = 9;
+pub const VERSION: u32 = 10;
 
 // The refusal's number and zeros where the call is turned away; else 0, 1 where the selection fits and 0 where not, and its rank.
 #[repr(C)]

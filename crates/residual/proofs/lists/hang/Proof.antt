@@ -1,18 +1,14 @@
 -- Two stores: the first item at the node goes into the cell of the new one, and the picked item becomes the first.
 use mathlib.Core.Path.{sym}
+use native.Mathlib.Omega.{arith}
 use Rattle.theory.proofs.TestLaws.{pick-most}
-use Rattle.residual.specs.Map.{firsts}
-use Rattle.residual.proofs.MapLaws.{room-keeps, table-small}
+use Rattle.residual.specs.Map.{firsts, part}
+use Rattle.residual.proofs.PartLaws.{half-fits}
+use Rattle.residual.proofs.MapLaws.{room-keeps, half-small}
 use Rattle.residual.proofs.ListLaws.{hung-of}
 use borrow.Author.Needs.{needs}
 use Rattle.residual.proofs.lists.hang.Statement.{statement}
 use Rattle.residual.proofs.lists.hang.Tie as tie
-use Rattle.residual.proofs.lists.hang.Reads as reads
-use Rattle.residual.proofs.lists.hang.Lts as lts
-use Rattle.residual.proofs.map.first.Reads as first-reads
-use Rattle.residual.proofs.map.set_cell.Reads as set-cell-reads
-use Rattle.residual.proofs.map.set_first.Reads as set-first-reads
-use Rattle.residual.proofs.pick.pick.Reads as pick-reads
 
 first-requires : tie.Need-first-requires
 first-requires c κs = search needs
@@ -24,7 +20,8 @@ set-cell-requires c κs =
       S .pre .0,
       (
         S .pre .1 .0 .0,
-        rw (read .first .ensures) (table-small (S .args .sh) (S .args .scratch .now) firsts _ (λ j. read .before .before .slice-known .given j .fits)),
+        half-fits (part (S .args .k)) (read .first .result)
+            (rw (read .first .ensures) (half-small (S .args .sh) (S .args .scratch .now) firsts _ (omega arith))),
       ),
     )
 
@@ -40,7 +37,7 @@ set-first-requires c κs =
       (
         S .pre .1 .1 .0,
         pick-most (S .args .tight) (S .args .j) (read .first .result) (c .before .pick .ensures) (S .pre .1 .1 .1)
-            (rw (read .first .ensures) (table-small (S .args .sh) (S .args .scratch .now) firsts _ (λ j. read .before .before .slice-known .given j .fits))),
+            (rw (read .first .ensures) (half-small (S .args .sh) (S .args .scratch .now) firsts _ (omega arith))),
       ),
     )
 
