@@ -1,5 +1,5 @@
 -- `part_of` meets its contract: a cell has 32 bits, so what is left of it above the low half is the high half.
-use mathlib.Core.Path.{_≡_, sym, ap}
+use mathlib.Core.Path.{ap}
 use native.Mathlib.Omega.{arith}
 use borrow.Author.Needs.{needs}
 use Rattle.residual.specs.Map.{partOf}

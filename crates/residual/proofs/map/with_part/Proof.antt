@@ -1,5 +1,5 @@
 -- `with_part` meets its contract: a number that goes into half a cell is below 2 ^ 16.
-use mathlib.Core.Path.{_≡_, sym, ap}
+use mathlib.Core.Path.{ap}
 use native.Mathlib.Omega.{arith}
 use borrow.Author.Needs.{needs}
 use Rattle.residual.specs.Map.{withPart, bound}
