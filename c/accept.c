@@ -12,7 +12,8 @@
  *
  * It prints one line: `accepted`, or `refused`, the number and what it means. The exit status is 0 where the closing is accepted, 1 where
  * it is refused, and 2 where it could not be judged: a word is missing or wrong, a file cannot be read, the sheet's length is no multiple
- * of four, the library has another version, or the answer cannot be written. What is wrong then stands on the standard error output.
+ * of four or is over a mebibyte, the library has another version, or the answer cannot be written. What is wrong then stands on the
+ * standard error output.
  *
  * How to read it: c/example.c says so. `fopen` opens a named file, `fread` reads bytes from it, and `exit` ends the program.
  */
