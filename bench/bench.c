@@ -69,6 +69,7 @@ static void print_ratio(double ours, double theirs, int known) {
 
 /* Full-size days: a line a family, then the mean. */
 static void print_families(unsigned peer) {
+    if (KINDS == SECOND_KINDS) printf("\nThe second terms: four kinds of rows, and weights of 64 bits.\n");
     printf("\nDays of %u claims, microseconds: mean over %u days of the median of %u.\n", sizes[FULL], DAYS, REPEATS);
     printf("%-18s", "family");
     for (unsigned who = 0; who < contestant_count; who++) printf(" %9s", contestants[who].name);
@@ -106,7 +107,9 @@ static double print_growth(void) {
     return most;
 }
 
-/* ---- reading, fits and rank, and accept ---- */
+/* ---- reading, fits and rank, and accept, which are measured under the first terms alone ---- */
+
+#if KINDS == 2
 
 static volatile unsigned sink;
 static uint8_t selection[MOST_ROWS];
@@ -181,10 +184,30 @@ static void print_works(void) {
     printf("accept:        ours %.2f, plain C %.2f\n", work_means[ACCEPT_OURS], work_means[ACCEPT_PLAIN]);
 }
 
-/* ---- targets ---- */
+static void target(const char *what, double value, double most);
+
+static void print_work_targets(void) {
+    target("reading to a plain C reader", work_means[JUDGE_OURS] / work_means[JUDGE_PLAIN], 3);
+    target("reading to a plain C reader into tables", work_means[JUDGE_OURS] / work_means[READ_PLAIN], 3);
+    target("fits and rank to plain C", work_means[RANK_OURS] / work_means[RANK_PLAIN], 1.5);
+    target("fits and rank to greedy plain C", work_means[RANK_OURS] / work_means[RANK_GREEDY], 3);
+    target("accept to plain C", work_means[ACCEPT_OURS] / work_means[ACCEPT_PLAIN], 1.5);
+}
+
+#else
+
+static void measure_works(void) {}
+static void print_works(void) {}
+static void print_work_targets(void) {}
+
+#endif
+
+/* ---- targets, which are those of the first terms ---- */
 
 static void target(const char *what, double value, double most) {
-    printf("%-58s %6.2f, target %.2f: %s\n", what, value, most, value <= most ? "met" : "missed");
+    printf("%-58s %6.2f", what, value);
+    if (KINDS == FIRST_KINDS) printf(", target %.2f: %s", most, value <= most ? "met" : "missed");
+    printf("\n");
 }
 
 static void print_targets(unsigned peer, double growth) {
@@ -197,11 +220,7 @@ static void print_targets(unsigned peer, double growth) {
     target("mean to the best hand-written C", mean_of(FULL, OURS) / mean_of(FULL, peer), 0.5);
     target("worst day to the best hand-written C", worst, 1.5);
     target("greatest growth as claims double", growth, 4);
-    target("reading to a plain C reader", work_means[JUDGE_OURS] / work_means[JUDGE_PLAIN], 3);
-    target("reading to a plain C reader into tables", work_means[JUDGE_OURS] / work_means[READ_PLAIN], 3);
-    target("fits and rank to plain C", work_means[RANK_OURS] / work_means[RANK_PLAIN], 1.5);
-    target("fits and rank to greedy plain C", work_means[RANK_OURS] / work_means[RANK_GREEDY], 3);
-    target("accept to plain C", work_means[ACCEPT_OURS] / work_means[ACCEPT_PLAIN], 1.5);
+    print_work_targets();
 }
 
 static void one_day(unsigned family, unsigned rows, unsigned number) {
@@ -211,7 +230,10 @@ static void one_day(unsigned family, unsigned rows, unsigned number) {
     make_day(family, rows, number, &day);
     ours_settle(day.bytes, day.length, &out);
     measure_days(&day, 1, MOST_REPEATS, medians);
-    printf("%s, %u claims, day %u: earned %u, kept %u\n", family_names[family], rows, number, out.earned, out.kept);
+    printf("%s, %u claims, day %u: ", family_names[family], rows, number);
+    if (KINDS == FIRST_KINDS) printf("earned %u, ", out.of_kind[1]);
+    for (unsigned kind = KINDS; KINDS == SECOND_KINDS && kind-- > 0;) printf("%u of kind %u, ", out.of_kind[kind], kind);
+    printf("kept %u\n", out.kept);
     for (unsigned who = 0; who < contestant_count; who++)
         printf("%-10s %9.1f us, ours to it %.2f\n", contestants[who].name, medians[0][who], medians[0][OURS] / medians[0][who]);
 }

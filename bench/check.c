@@ -1,6 +1,7 @@
 /*
- * Every contestant's answer against ours, and ours against a search through all selections, on a handful of days; the codes against the
- * ranks of the rows that have them; closings against a plain judge; and the stack of every call against its bound.
+ * Every contestant's answer against ours, and ours against a search through all selections, on a handful of days; the marks of each day;
+ * the codes against the ranks of the rows that have them; closings against a plain judge; and the stack of every call against its bound.
+ * Under the second terms there is one sort of file, and there are no codes and no closings to judge.
  *
  *   check CALL...    CALL... are the names of the calls that the archive exports
  */
@@ -13,7 +14,8 @@ static void check(int ok, const char *what, const char *who, unsigned family, un
 }
 
 static int same(const struct outcome *a, const struct outcome *b, unsigned rows, int with_choice) {
-    if (a->refusal != b->refusal || a->earned != b->earned || a->kept != b->kept) return 0;
+    if (a->refusal != b->refusal || a->kept != b->kept || a->total != b->total) return 0;
+    if (memcmp(a->of_kind, b->of_kind, sizeof a->of_kind) != 0) return 0;
     return !with_choice || memcmp(a->choice, b->choice, rows) == 0;
 }
 
@@ -22,6 +24,30 @@ static void check_named(const struct outcome *ours, unsigned family, unsigned ro
     if (family == NOTHING) check(ours->kept == 0, "something fits", "ours", family, rows, number);
     if (family == EVERYTHING) check(ours->kept == rows, "something does not fit", "ours", family, rows, number);
 }
+
+/* The marks show that no choice weighs more. */
+static void check_marks(const struct outcome *ours, unsigned family, unsigned rows, unsigned number) {
+    struct day d = tables_of(family, rows, number);
+    check(ours_certified(&d, ours->choice), "the marks", "ours", family, rows, number);
+}
+
+/* ---- what differs with the terms ---- */
+
+#if KINDS == 4
+
+static void check_sorts(const struct outcome *ours, unsigned family, unsigned rows, unsigned number) {
+    (void)ours, (void)family, (void)rows, (void)number;
+}
+
+static void check_codes(const struct file *day, unsigned family, unsigned rows, unsigned number) {
+    (void)day, (void)family, (void)rows, (void)number;
+}
+
+static void check_closings(const struct file *day, unsigned family, unsigned rows, unsigned number) {
+    (void)day, (void)family, (void)rows, (void)number;
+}
+
+#else
 
 /* Our calls for every sort of file settle a day as the first one does, on any weekday, since the day is a new one with equal weekdays. */
 static void check_sorts(const struct outcome *ours, unsigned family, unsigned rows, unsigned number) {
@@ -34,54 +60,6 @@ static void check_sorts(const struct outcome *ours, unsigned family, unsigned ro
         ours_settle_by(by, number % WEEKDAYS, &file, &same_day);
         check(same(&same_day, ours, rows, 1), "another answer for a sort of file", by->name, family, rows, number);
     }
-}
-
-/* Each contestant settles a day as ours does. */
-static void check_settled(const struct file *day, unsigned family, unsigned rows, unsigned number) {
-    static struct outcome ours, theirs;
-    ours_settle(day->bytes, day->length, &ours);
-    check(ours.refusal == 0, "refused", "ours", family, rows, number);
-    check_named(&ours, family, rows, number);
-    check_sorts(&ours, family, rows, number);
-    for (unsigned who = 1; who < contestant_count; who++) {
-        memset(&theirs, 7, sizeof theirs);
-        contestants[who].settle(day->bytes, day->length, &theirs);
-        check(same(&theirs, &ours, rows, contestants[who].knows_rows), "another answer than ours", contestants[who].name, family, rows,
-              number);
-    }
-}
-
-/* Ours keeps the best of all selections. */
-static void check_searched(const struct file *day, unsigned family, unsigned rows, unsigned number) {
-    static struct outcome ours, best;
-    struct day d;
-    ours_settle(day->bytes, day->length, &ours);
-    best.refusal = read_day(day->bytes, day->length, week_file, &d);
-    search_all(&d, 2, best.choice);
-    best.earned = count_rows(&d, best.choice, 1);
-    best.kept = count_rows(&d, best.choice, 0);
-    check(same(&ours, &best, rows, 1), "not the best of all selections", "ours", family, rows, number);
-}
-
-static int equal_ranks(struct plain_rank a, struct plain_rank b) { return a.refusal == b.refusal && a.fits == b.fits && a.rank == b.rank; }
-
-/* Fits and rank of the kept rows, which fit, and of every other row, on both sides and on one that does not exist, and on a day over 6. */
-static void check_ranks(const struct file *day, unsigned family, unsigned rows, unsigned number) {
-    static struct outcome kept;
-    static uint8_t other[MOST_ROWS];
-    ours_settle(day->bytes, day->length, &kept);
-    for (unsigned c = 0; c < rows; c++) other[c] = c % 2;
-    for (unsigned side = 0; side < 3; side++)
-        for (unsigned k = 0; k < 3; k++) {
-            const uint8_t *selection = k ? other : kept.choice;
-            size_t selected = k == 2 ? rows - 1 : rows;
-            unsigned weekday = (side + k + number) % (WEEKDAYS + 1);
-            struct plain_rank ours = ours_fits_and_rank(day->bytes, day->length, selection, selected, side, weekday);
-            struct plain_rank plain = plain_fits_and_rank(day->bytes, day->length, selection, selected, side, weekday);
-            struct plain_rank greedy = greedy_fits_and_rank(day->bytes, day->length, selection, selected, side, weekday);
-            check(equal_ranks(ours, plain), "another rank than ours", "plain C", family, rows, number);
-            check(equal_ranks(ours, greedy), "another rank than ours", "greedy C", family, rows, number);
-        }
 }
 
 /* How many of the rows with a code are kept. The rows with the code, kept or not, are left as a selection. */
@@ -132,11 +110,66 @@ static void check_closings(const struct file *day, unsigned family, unsigned row
     }
 }
 
+#endif
+
+/* ---- what is the same under both ---- */
+
+/* Each contestant settles a day as ours does. */
+static void check_settled(const struct file *day, unsigned family, unsigned rows, unsigned number) {
+    static struct outcome ours, theirs;
+    ours_settle(day->bytes, day->length, &ours);
+    check(ours.refusal == 0, "refused", "ours", family, rows, number);
+    check_named(&ours, family, rows, number);
+    check_marks(&ours, family, rows, number);
+    check_sorts(&ours, family, rows, number);
+    for (unsigned who = 1; who < contestant_count; who++) {
+        memset(&theirs, 7, sizeof theirs);
+        contestants[who].settle(day->bytes, day->length, &theirs);
+        check(same(&theirs, &ours, rows, contestants[who].knows_rows), "another answer than ours", contestants[who].name, family, rows,
+              number);
+    }
+}
+
+/* Ours keeps the best of all selections. */
+static void check_searched(const struct file *day, unsigned family, unsigned rows, unsigned number) {
+    static struct outcome ours, best;
+    struct day d;
+    ours_settle(day->bytes, day->length, &ours);
+    best.refusal = read_day(day->bytes, day->length, week_file, &d);
+    search_all(&d, KINDS, best.choice);
+    best.kept = count_rows(&d, best.choice, 0);
+    best.total = worth_of(&d, best.choice);
+    for (unsigned kind = 0; kind < KINDS; kind++)
+        best.of_kind[kind] = count_rows(&d, best.choice, kind) - count_rows(&d, best.choice, kind + 1);
+    check(same(&ours, &best, rows, 1), "not the best of all selections", "ours", family, rows, number);
+}
+
+static int equal_ranks(struct plain_rank a, struct plain_rank b) { return a.refusal == b.refusal && a.fits == b.fits && a.rank == b.rank; }
+
+/* Fits and rank of the kept rows, which fit, and of every other row, on both sides and on one that does not exist, and on a day over 6. */
+static void check_ranks(const struct file *day, unsigned family, unsigned rows, unsigned number) {
+    static struct outcome kept;
+    static uint8_t other[MOST_ROWS];
+    ours_settle(day->bytes, day->length, &kept);
+    for (unsigned c = 0; c < rows; c++) other[c] = c % 2;
+    for (unsigned side = 0; side < 3; side++)
+        for (unsigned k = 0; k < 3; k++) {
+            const uint8_t *selection = k ? other : kept.choice;
+            size_t selected = k == 2 ? rows - 1 : rows;
+            unsigned weekday = (side + k + number) % (WEEKDAYS + 1);
+            struct plain_rank ours = ours_fits_and_rank(day->bytes, day->length, selection, selected, side, weekday);
+            struct plain_rank plain = plain_fits_and_rank(day->bytes, day->length, selection, selected, side, weekday);
+            struct plain_rank greedy = greedy_fits_and_rank(day->bytes, day->length, selection, selected, side, weekday);
+            check(equal_ranks(ours, plain), "another rank than ours", "plain C", family, rows, number);
+            check(equal_ranks(ours, greedy), "another rank than ours", "greedy C", family, rows, number);
+        }
+}
+
 /* A file that is cut, lengthened, or has one byte set anew: the readers give the same number. */
 static void check_damaged(const struct file *day, unsigned family, unsigned rows, unsigned number) {
     static struct file hurt;
     static struct day d;
-    static const uint8_t values[] = {0, 1, 2, 127, 255};
+    static const uint8_t values[] = {0, 1, KINDS, 127, 255};
     unsigned wrong = 0;
     for (unsigned k = 0; k < 400; k++) {
         hurt = *day;

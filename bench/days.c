@@ -25,11 +25,15 @@ static void hang_groups(struct day *d, unsigned side, unsigned family, unsigned 
 
 /* ---- the rows ---- */
 
-/* Of four rows, one, two or three are earned, by the day's number. */
+/*
+ * Of four rows, one, two or three are earned, by the day's number. Under the second terms an earned row has any of the kinds 1 to 3, which
+ * its place in the file decides, so that the days are otherwise the same under both terms.
+ */
 static void draw_kinds(struct day *d, unsigned family, unsigned number) {
     for (unsigned c = 0; c < d->rows; c++) {
-        d->kind[c] = below(4) < 1 + number % 3;
-        if (family == EARNED) d->kind[c] = 1;
+        unsigned earned = 1 + c * 2654435761u / 7 % (KINDS - 1);
+        d->kind[c] = (uint8_t)(below(4) < 1 + number % 3 ? earned : 0);
+        if (family == EARNED) d->kind[c] = (uint8_t)earned;
         if (family == ORDINARY) d->kind[c] = 0;
     }
 }

@@ -1,8 +1,17 @@
-/* Families of days, written as new claim files of the week layout from a fixed seed. */
+/*
+ * Families of days, written as new claim files of the week layout from a fixed seed.
+ *
+ * KINDS is the number of kinds that rows have: 2 under the first terms, 4 under the second. Each program of bench/ is built for one of the
+ * terms, and bench/run says which.
+ */
 #ifndef DAYS_H
 #define DAYS_H
 
 #include "day.h"
+
+#ifndef KINDS
+#define KINDS 2
+#endif
 
 /* The families, by their numbers. */
 enum { FLAT, CHAINS, FORESTS, BINARY, PATHS, TIES, EARNED, ORDINARY, NOTHING, EVERYTHING, FAMILIES };

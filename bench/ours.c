@@ -1,13 +1,46 @@
 /* The library's calls. No other file here names them, except the table of sorts.h. */
 #include "ours.h"
 
-static uint32_t sheet[MOST_MARKS], scratch[CLAIMS_LONGEST_SCRATCH];
+static mark sheet[MOST_MARKS], scratch[CLAIMS_LONGEST_SCRATCH];
+
+mark *ours_sheet(void) { return sheet; }
+
+#if KINDS == 4
+
+#define SETTLE claims_settle_kinds
+#define FITS_AND_RANK claims_fits_and_rank_kinds
+
+void ours_settle(const uint8_t *file, size_t length, struct outcome *out) {
+    struct claims_settle_kinds_answer r =
+        claims_settle_kinds(file, length, 0, out->choice, MOST_ROWS, sheet, MOST_MARKS, scratch, CLAIMS_LONGEST_SCRATCH);
+    out->refusal = r.refusal;
+    out->of_kind[0] = (unsigned)r.kind0;
+    out->of_kind[1] = (unsigned)r.kind1;
+    out->of_kind[2] = (unsigned)r.kind2;
+    out->of_kind[3] = (unsigned)r.kind3;
+    out->kept = (unsigned)r.kept;
+    out->total = r.total;
+}
+
+void ours_keep(unsigned layout, const struct file *file, struct outcome *out) {
+    (void)layout;
+    ours_settle(file->bytes, file->length, out);
+}
+
+int ours_certified(const struct day *d, const uint8_t *choice) { return certified_wide(d, KINDS, choice, sheet); }
+
+#else
+
+#define SETTLE claims_settle
+#define FITS_AND_RANK claims_fits_and_rank
 
 static void settle_by(claims_settle_call *settle, unsigned weekday, const uint8_t *file, size_t length, struct outcome *out) {
     struct claims_settle_answer r = settle(file, length, weekday, out->choice, MOST_ROWS, sheet, MOST_MARKS, scratch, CLAIMS_LONGEST_SCRATCH);
     out->refusal = r.refusal;
-    out->earned = (unsigned)r.earned;
+    out->of_kind[0] = (unsigned)(r.kept - r.earned);
+    out->of_kind[1] = (unsigned)r.earned;
     out->kept = (unsigned)r.kept;
+    out->total = r.total;
 }
 
 void ours_settle(const uint8_t *file, size_t length, struct outcome *out) { settle_by(claims_settle, 0, file, length, out); }
@@ -16,32 +49,58 @@ void ours_settle_by(const struct sort *by, unsigned weekday, const struct file *
     settle_by(by->settle, weekday, file->bytes, file->length, out);
 }
 
+void ours_keep(unsigned layout, const struct file *file, struct outcome *out) {
+    ours_settle_by(&sorts[layout == WEEK ? STORED_WEEK : STORED_OLD], 0, file, out);
+}
+
+int ours_certified(const struct day *d, const uint8_t *choice) { return certified(d, KINDS, choice, sheet); }
+
 unsigned ours_codes(const uint8_t *file, size_t length, uint8_t *codes) {
     return claims_write_codes(file, length, 0, codes, MOST_ROWS, scratch, CLAIMS_LONGEST_SCRATCH).refusal;
 }
 
+unsigned ours_accept(const uint8_t *file, size_t length, const uint8_t *choice, size_t choices, unsigned weekday) {
+    return claims_accept(file, length, choice, choices, sheet, MOST_MARKS, weekday);
+}
+
+#endif
+
 /* With no memory lent, settle judges the file and then answers that the memory is short; with no group and no row none is needed. */
 unsigned ours_judge(const uint8_t *file, size_t length) {
-    unsigned refusal = claims_settle(file, length, 0, (uint8_t *)sheet, 0, sheet, 0, scratch, 0).refusal;
+    unsigned refusal = SETTLE(file, length, 0, (uint8_t *)sheet, 0, sheet, 0, scratch, 0).refusal;
     return refusal == CLAIMS_SHORT ? 0 : refusal;
 }
 
 struct plain_rank ours_fits_and_rank(const uint8_t *file, size_t length, const uint8_t *selection, size_t selected, unsigned side,
                                      unsigned weekday) {
-    struct claims_fits_and_rank_answer r = claims_fits_and_rank(file, length, selection, selected, side, weekday);
+    struct claims_fits_and_rank_answer r = FITS_AND_RANK(file, length, selection, selected, side, weekday);
     return (struct plain_rank){r.refusal, r.fits, r.rank};
 }
-
-/* The sheet is what the last call of settle left. */
-unsigned ours_accept(const uint8_t *file, size_t length, const uint8_t *choice, size_t choices, unsigned weekday) {
-    return claims_accept(file, length, choice, choices, sheet, MOST_MARKS, weekday);
-}
-
-uint32_t *ours_sheet(void) { return sheet; }
 
 /* ---- every call ---- */
 
 enum { DAY_NAMED = WEEKDAYS - 1 };
+
+#if KINDS == 4
+
+static void make_settle(const struct sort *by, const struct file *day, const uint8_t *selection) {
+    static uint8_t choice[MOST_ROWS];
+    (void)by, (void)selection;
+    claims_settle_kinds(day->bytes, day->length, DAY_NAMED, choice, MOST_ROWS, sheet, MOST_MARKS, scratch, CLAIMS_LONGEST_SCRATCH);
+}
+
+static void make_fits_and_rank(const struct sort *by, const struct file *day, const uint8_t *selection) {
+    (void)by;
+    for (unsigned side = 0; side < 2; side++) claims_fits_and_rank_kinds(day->bytes, day->length, selection, MOST_ROWS, side, DAY_NAMED);
+}
+
+/* They take one sort of file, in the week layout. */
+const struct call calls[] = {
+    {"claims_settle_kinds", make_settle, NULL},
+    {"claims_fits_and_rank_kinds", make_fits_and_rank, NULL},
+};
+
+#else
 
 static void make_settle(const struct sort *by, const struct file *day, const uint8_t *selection) {
     static uint8_t choice[MOST_ROWS];
@@ -101,4 +160,7 @@ const struct call calls[] = {
     EACH_SORT("claims_accept", make_accept),
     {"claims_version", make_version, NULL},
 };
+
+#endif
+
 const unsigned call_count = sizeof calls / sizeof *calls;

@@ -1,11 +1,13 @@
 /*
- * The primal-dual method by hand. With two weights the dual prices change twice, so it comes to two greatest flows: of the earned
- * rows, and then of all rows along the arcs that are still tight. A greatest flow is found in rounds, each one walk through the
- * network that turns every path it comes upon. What the last walk reached is the border where prices change: no arc across it is
- * tight from then on.
+ * The primal-dual method by hand. The dual prices change once for each kind, so it comes to as many greatest flows: of the rows of the
+ * highest kind, and then, kind by kind, with the rows of the next lower one, along the arcs that are still tight. A greatest flow is found
+ * in rounds, each one walk through the network that turns every path it comes upon. What the last walk reached is the border where prices
+ * change: no arc across it is tight from then on, since all later changes together are no greater than this one.
  */
 #include <string.h>
 #include "network.h"
+
+enum { NO_KIND = UINT8_MAX };
 
 struct walk {
     uint16_t at[MOST_NODES];   /* the half arc next looked at, of each node */
@@ -58,11 +60,18 @@ static unsigned greatest_flow(struct network *n) {
     return all;
 }
 
-/* The ordinary rows that are tight once the earned rows are settled: from a reached card to a shop not reached. */
-static void open_ordinary(struct network *n, const struct day *d) {
+/*
+ * The rows of a kind that are tight once those of the higher kinds are settled: at each border so far, from a reached card to a shop not
+ * reached. A row of this kind or a lower one that is not across the present border is tight no more, and loses its kind.
+ */
+static void open_rows(struct network *n, struct day *d, unsigned kind) {
     for (unsigned c = 0; c < d->rows; c++) {
         unsigned e = n->half[n->groups + c];
-        if (d->kind[c] == 0 && n->mark[n->to[n->back[e]]] == n->stamp && n->mark[n->to[e]] != n->stamp) n->left[e] = 1;
+        if (d->kind[c] > kind) continue;
+        if (n->mark[n->to[n->back[e]]] != n->stamp || n->mark[n->to[e]] == n->stamp)
+            d->kind[c] = NO_KIND;
+        else if (d->kind[c] == kind)
+            n->left[e] = 1;
     }
 }
 
@@ -79,14 +88,17 @@ void flow_settle(const uint8_t *file, size_t length, struct outcome *out) {
     struct network n;
     out->refusal = read_day(file, length, week_file, &d);
     if (out->refusal) return;
-    build_network(&n, &d, 1);
+    build_network(&n, &d, KINDS - 1);
     memset(out->choice, 0, d.rows);
-    out->earned = greatest_flow(&n);
-    keep_across(&n, out->choice);
-    freeze_border(&n);
-    open_ordinary(&n, &d);
-    out->kept = out->earned + greatest_flow(&n);
-    keep_across(&n, out->choice);
-    freeze_border(&n);
+    out->kept = 0;
+    out->total = 0;
+    for (unsigned kind = KINDS; kind-- > 0;) {
+        if (kind < KINDS - 1) open_rows(&n, &d, kind);
+        out->of_kind[kind] = greatest_flow(&n);
+        out->kept += out->of_kind[kind];
+        out->total += out->of_kind[kind] * weight_of(&d, kind);
+        keep_across(&n, out->choice);
+        freeze_border(&n);
+    }
     order_rows(&n, out->choice);
 }

@@ -13,18 +13,19 @@ enum { LOWER, UPPER, TREE };
 struct simplex {
     unsigned groups, arcs, root;
     uint16_t from[MOST_ARCS], to[MOST_ARCS];
-    int capacity[MOST_ARCS], cost[MOST_ARCS], flow[MOST_ARCS];
+    int capacity[MOST_ARCS], flow[MOST_ARCS];
+    cost costs[MOST_ARCS];
     uint8_t state[MOST_ARCS];
     uint16_t parent[MOST_NODES], up[MOST_NODES], depth[MOST_NODES]; /* the tree: up is the arc to the parent */
     uint16_t child[MOST_NODES + 1], next[MOST_NODES + 1], previous[MOST_NODES + 1];
-    int price[MOST_NODES];
+    cost price[MOST_NODES];
 };
 
-static void set_arc(struct simplex *s, unsigned e, unsigned from, unsigned to, int capacity, int cost) {
+static void set_arc(struct simplex *s, unsigned e, unsigned from, unsigned to, int capacity, cost costs) {
     s->from[e] = (uint16_t)from;
     s->to[e] = (uint16_t)to;
     s->capacity[e] = capacity;
-    s->cost[e] = cost;
+    s->costs[e] = costs;
     s->flow[e] = 0;
     s->state[e] = LOWER;
 }
@@ -52,13 +53,15 @@ static void unhang(struct simplex *s, unsigned v) {
 /* The arcs of the groups and of the rows, and the one that leads back. */
 static void list_arcs(struct simplex *s, const struct day *d) {
     unsigned cards = d->groups[0], source = s->groups, sink = s->root;
+    cost costs[KINDS];
+    list_costs(d, costs);
     for (unsigned g = 0; g < cards; g++)
         set_arc(s, g, d->parent[0][g] == TOP ? source : d->parent[0][g], g, d->limit[0][g], 0);
     for (unsigned h = 0; h < d->groups[1]; h++)
         set_arc(s, cards + h, cards + h, d->parent[1][h] == TOP ? sink : cards + d->parent[1][h], d->limit[1][h], 0);
     for (unsigned c = 0; c < d->rows; c++) {
         unsigned card = counts_from(d, 0, c);
-        set_arc(s, s->groups + c, card == TOP ? source : card, cards + d->group[1][c], 1, d->kind[c] ? -(int)(d->rows + 1) : -1);
+        set_arc(s, s->groups + c, card == TOP ? source : card, cards + d->group[1][c], 1, costs[d->kind[c]]);
     }
     set_arc(s, s->arcs - 1, sink, source, (int)d->rows, 0);
 }
@@ -77,7 +80,7 @@ static void first_basis(struct simplex *s, const struct day *d) {
     }
 }
 
-static int reduced_cost(const struct simplex *s, unsigned e) { return s->cost[e] + s->price[s->from[e]] - s->price[s->to[e]]; }
+static cost reduced_cost(const struct simplex *s, unsigned e) { return s->costs[e] + s->price[s->from[e]] - s->price[s->to[e]]; }
 
 /* The next arc that may enter, or the number of arcs where there is none. */
 static unsigned entering(const struct simplex *s, unsigned *at) {
@@ -85,8 +88,8 @@ static unsigned entering(const struct simplex *s, unsigned *at) {
         unsigned e = *at;
         *at = e + 1 == s->arcs ? 0 : e + 1;
         if (s->state[e] == TREE) continue;
-        int cost = reduced_cost(s, e);
-        if (s->state[e] == LOWER ? cost < 0 : cost > 0) return e;
+        cost reduced = reduced_cost(s, e);
+        if (s->state[e] == LOWER ? reduced < 0 : reduced > 0) return e;
     }
     return s->arcs;
 }
@@ -148,7 +151,7 @@ static void change_flow(struct simplex *s, const struct circle *c) {
 }
 
 /* Adds to the prices below v, and sets the depths there. */
-static void reprice(struct simplex *s, unsigned top, int more) {
+static void reprice(struct simplex *s, unsigned top, cost more) {
     unsigned v = top;
     for (;;) {
         s->price[v] += more;
@@ -167,7 +170,7 @@ static void reprice(struct simplex *s, unsigned top, int more) {
 static void change_tree(struct simplex *s, const struct circle *c) {
     unsigned inner = c->by_tail ? c->tail : c->head, outer = c->by_tail ? c->head : c->tail;
     unsigned leaves = s->up[c->leaves], v = inner, p = outer, e = c->enters;
-    int cost = reduced_cost(s, c->enters);
+    cost reduced = reduced_cost(s, c->enters);
     for (;;) {
         unsigned above = s->parent[v], arc = s->up[v];
         int last = v == c->leaves;
@@ -179,7 +182,7 @@ static void change_tree(struct simplex *s, const struct circle *c) {
         e = arc;
     }
     s->state[leaves] = s->flow[leaves] ? UPPER : LOWER;
-    reprice(s, inner, s->from[c->enters] == inner ? -cost : cost);
+    reprice(s, inner, s->from[c->enters] == inner ? -reduced : reduced);
 }
 
 static void run(struct simplex *s) {
@@ -219,8 +222,12 @@ void simplex_settle(const uint8_t *file, size_t length, struct outcome *out) {
     run(&s);
     build_network(&n, &d, 0);
     take_over(&n, &s, out->choice);
-    out->earned = 0;
-    for (unsigned c = 0; c < d.rows; c++) out->earned += d.kind[c] && s.flow[s.groups + c];
+    memset(out->of_kind, 0, sizeof out->of_kind);
+    out->total = 0;
+    for (unsigned c = 0; c < d.rows; c++) {
+        out->of_kind[d.kind[c]] += (unsigned)s.flow[s.groups + c];
+        out->total += (uint64_t)(-s.costs[s.groups + c] * s.flow[s.groups + c]);
+    }
     out->kept = (unsigned)s.flow[s.arcs - 1];
     order_rows(&n, out->choice);
 }

@@ -38,7 +38,7 @@ unsigned plain_judge(const uint8_t *file, size_t length) {
     for (unsigned c = 0; c < rows; c++, at += 5) {
         if (length - at < 5) return 1;
         if (get16(file + at) >= cards || get16(file + at + 2) >= shops) return 5;
-        if (file[at + 4] > 1) return 6;
+        if (file[at + 4] >= KINDS) return 6;
     }
     return at < length ? 7 : 0;
 }
@@ -56,7 +56,7 @@ static unsigned judge_selection(const struct day *d, const uint8_t *selection, s
 static struct plain_rank judged_rank(const uint8_t *file, size_t length, const uint8_t *selection, size_t selected, unsigned side,
                                      unsigned weekday, struct ranked (*way)(const struct day *, unsigned, const uint8_t *)) {
     struct day d;
-    struct form form = {WEEK, NEW, weekday < WEEKDAYS ? weekday : 0};
+    struct form form = {WEEK, NEW, weekday < WEEKDAYS ? weekday : 0, KINDS};
     unsigned fault = read_day(file, length, form, &d);
     if (!fault) fault = judge_selection(&d, selection, selected, side, weekday);
     if (fault) return (struct plain_rank){fault, 0, 0};
@@ -106,7 +106,7 @@ static uint64_t total_of(const struct day *d, const uint32_t *sheet) {
 unsigned plain_accept(const uint8_t *file, size_t length, const uint8_t *choice, size_t choices, const uint32_t *sheet, size_t marks,
                       unsigned weekday) {
     static struct day d;
-    struct form form = {WEEK, NEW, weekday < WEEKDAYS ? weekday : 0};
+    struct form form = {WEEK, NEW, weekday < WEEKDAYS ? weekday : 0, KINDS};
     unsigned fault = read_day(file, length, form, &d);
     if (fault) return fault;
     if (marks < d.groups[CARD] + d.groups[SHOP] + d.rows) return 8;

@@ -5,7 +5,7 @@
 #ifndef PLAIN_H
 #define PLAIN_H
 
-#include "day.h"
+#include "days.h"
 
 struct plain_rank {
     unsigned refusal, fits, rank;

@@ -33,7 +33,7 @@ static void make_on_day(const struct day *d) {
     static struct outcome kept;
     unsigned layout = made->by == NULL ? WEEK : made->by->layout;
     write_day(d, layout, &day);
-    ours_settle_by(&sorts[layout == WEEK ? STORED_WEEK : STORED_OLD], 0, &day, &kept);
+    ours_keep(layout, &day, &kept);
     memset(selection, 0, sizeof selection);
     make_on_paint();
     memcpy(selection, kept.choice, sizeof selection);

@@ -1,6 +1,6 @@
 /*
- * A day of bread claims: the calls for the till's own program. c/example.c is a whole program that uses them, and c/accept.c is one for
- * other makers of tills.
+ * A day of bread claims: the calls for the till's own program. c/example.c is a whole program that uses them, c/example_kinds.c is one for
+ * the second terms, and c/accept.c is one for other makers of tills.
  *
  * The claim file has three sections, each after its count: card groups, shop groups and claims. Every count and field is unsigned and 16
  * bits wide, low byte first, except the kind, which is one byte. Groups are numbered from 0 within their section, and claims, the file's
@@ -8,20 +8,22 @@
  *
  *     group record, week layout   16 bytes: parent, then seven limits, for days 0 to 6
  *     group record, old layout     4 bytes: parent, then one limit
- *     claim record                 5 bytes: card group, shop group, kind (0 ordinary, 1 earned)
+ *     claim record                 5 bytes: card group, shop group, kind (0 ordinary, 1 earned; 0 to 3 under the second terms)
  *
  * A parent is a smaller group number of the same section, or 65535 for a group at the top. A limit is any number from 0 to 65535.
  *
  * A call names the day, 0 to 6, and a group's limit is that day's. The canonical form alone is that of the whole week and names none. A
  * file in the old layout acts as one in the week layout that has each limit seven times: its answers are the same on every day.
  *
- * There are four sorts of file, and each call on a file stands here four times, with the same arguments and the same form of answer. What
- * stands at the end of its name says which sort it takes:
+ * There are four sorts of file, and each call on a file of the first terms stands here four times, with the same arguments and the same
+ * form of answer. What stands at the end of its name says which sort it takes:
  *
  *     nothing        a new file in the week layout
  *     _stored        a stored file in the week layout
  *     _old           a new file in the old layout
  *     _old_stored    a stored file in the old layout
+ *
+ * The two calls under the second terms take a new file in the week layout, and their names end in _kinds.
  *
  * In a new file no group's limit may be above its parent's, on any of the seven days, whichever is named. A stored file is one taken from
  * the shelf, which was written when any limit was allowed. Its limits are lowered, on each day by itself: from the first group to the
@@ -33,13 +35,22 @@
  * On the card side an ordinary claim does so too; an earned claim does not count in the card group that it names, only in the groups above
  * that one. So an earned claim that names a card group at the top counts in no card group.
  *
- * Link with libtill.a. It is built for Linux (ELF, System V calling convention) on x86-64, any such processor, and may be linked at any
- * address. Of the C library it needs memset and memcpy at most. It has no variables of its own and uses no heap; docs/PERFORMANCE.md says
- * how much code it has and how much stack it takes.
+ * There are two terms, the first with two kinds of claims and the second with four, and an archive for each:
  *
- * The calls keep no state. Only settle, the slip, the canonical form and the codes, for each sort of file, change memory that is lent to
- * them, and only where they answer no refusal. Calls may be made from several threads at once, where what they are lent to change is not
- * shared.
+ *     libtill.a          every call under the first terms, and claims_version
+ *     libtill_kinds.a    the two calls under the second terms: claims_settle_kinds and claims_fits_and_rank_kinds
+ *
+ * The first terms settle in numbers of 32 bits and the second in numbers of 64 bits. Each archive has the solver compiled for its own
+ * width, so that a till of the first terms settles as fast as without the second. Link with the archive whose calls the program makes, or
+ * with both: they export no name in common.
+ *
+ * The archives are built for Linux (ELF, System V calling convention) on x86-64, any such processor, and may be linked at any address. Of
+ * the C library they need memset and memcpy at most. They have no variables of their own and use no heap; docs/PERFORMANCE.md says how
+ * much code they have and how much stack they take.
+ *
+ * The calls keep no state. Only settle, under both terms, the slip, the canonical form and the codes change memory that is lent to them,
+ * for each sort of file, and only where they answer no refusal. Calls may be made from several threads at once, where what they are lent
+ * to change is not shared.
  *
  * A pointer must not be null, even where the length beside it is 0, and as many elements must stand there as the length says. Buffers
  * that are lent to one call do not overlap.
@@ -56,9 +67,10 @@ extern "C" {
 
 /*
  * The version: which library this header describes. It rises by one with each release that changes a call, a needed length or an answer.
- * claims_version() tells the version of the library that a program is linked with.
+ * claims_version() tells the version of the library that a program is linked with. It is in libtill.a alone; both archives of a release
+ * have the same version.
  */
-#define CLAIMS_VERSION 10u
+#define CLAIMS_VERSION 11u
 
 /* The most that a file may hold. */
 #define CLAIMS_MOST_GROUPS 256u       /* in one section, card groups or shop groups */
@@ -75,8 +87,9 @@ extern "C" {
 
 /*
  * The lengths that a call needs, counted in elements: bytes of a selection, of the choice, of the slip, of the canonical file and of the
- * codes, numbers of 32 bits of the sheet and of the scratch. They are the same for all sorts of file. `claims` is the file's number of
- * claims, `groups` that of its card groups and shop groups together, and `kept` that of the selection's bytes that are 1.
+ * codes, numbers of the sheet and of the scratch. These numbers have 32 bits, and 64 bits under the second terms. The lengths are the same
+ * for all sorts of file and under both terms. `claims` is the file's number of claims, `groups` that of its card groups and shop groups
+ * together, and `kept` that of the selection's bytes that are 1.
  */
 #define CLAIMS_SELECTION_LENGTH(claims) (claims)
 #define CLAIMS_CHOICE_LENGTH(claims) (claims)
@@ -115,7 +128,7 @@ extern "C" {
 #define CLAIMS_PARENT 3u        /* a parent is neither smaller than the group's own number nor 65535 */
 #define CLAIMS_CLAIM_COUNT 4u   /* the claim count is over 512 */
 #define CLAIMS_NO_SUCH_GROUP 5u /* a claim names a group that its section lacks */
-#define CLAIMS_KIND 6u          /* a kind is neither 0 nor 1 */
+#define CLAIMS_KIND 6u          /* a kind is neither 0 nor 1; under the second terms: a kind is over 3 */
 #define CLAIMS_TRAILING 7u      /* bytes follow the last claim */
 #define CLAIMS_SHORT 8u         /* a lent buffer or selection is shorter than needed */
 #define CLAIMS_VALUE 9u         /* a selection byte is over 1, the side is over 1, or the row is not below the number of claims */
@@ -147,6 +160,17 @@ struct claims_settle_answer {
     uint64_t total;   /* the sheet's total, which is the weight of the kept rows */
 };
 
+/* What settle answers under the second terms. */
+struct claims_settle_kinds_answer {
+    uint32_t refusal; /* 0, or the number of the reason why the call is turned away; the other fields are 0 then */
+    uint64_t kind0;   /* how many of the kept rows are of kind 0 */
+    uint64_t kind1;   /* of kind 1 */
+    uint64_t kind2;   /* of kind 2 */
+    uint64_t kind3;   /* of kind 3 */
+    uint64_t kept;    /* how many rows are kept */
+    uint64_t total;   /* the sheet's total, which is the weight of the kept rows */
+};
+
 /* What the slip answers. */
 struct claims_write_slip_answer {
     uint32_t refusal; /* 0, or the number of the reason why the call is turned away; the other field is 0 then */
@@ -165,13 +189,14 @@ struct claims_write_codes_answer {
     uint64_t length;  /* how many bytes were written: one for each claim */
 };
 
-/* The version of the library. Where it is not CLAIMS_VERSION, this header describes another one. */
+/* The version of the library. Where it is not CLAIMS_VERSION, this header describes another one. In libtill.a. */
 uint32_t claims_version(void);
 
 /*
- * Each of the seven sections that follow is one call. It says what the call does and what its arguments are; then comes its form as a type,
- * which ends in _call, and then a line for each sort of file. The line `claims_settle_call claims_settle_old;` declares the function
- * claims_settle_old with the arguments and the answer of the type claims_settle_call.
+ * Each section that follows is one call, except that the second terms have one section for both their calls. It says what the call does
+ * and what its arguments are; then comes its form as a type, which ends in _call, and then a line for each sort of file. The line
+ * `claims_settle_call claims_settle_old;` declares the function claims_settle_old with the arguments and the answer of the type
+ * claims_settle_call.
  */
 
 /* ---- Fits and rank ---- */
@@ -246,6 +271,38 @@ claims_settle_call claims_settle;
 claims_settle_call claims_settle_stored;
 claims_settle_call claims_settle_old;
 claims_settle_call claims_settle_old_stored;
+
+/* ---- The second terms ---- */
+
+/*
+ * Settling, and fits and rank, for bakeries that signed the second terms. They have four kinds of claims, 0 to 3, in new files of the week
+ * layout only, so there is one sort of each call. Both calls are in libtill_kinds.a. All other calls take files of the first terms only
+ * and refuse a kind of 2 or 3 with 6; these two refuse a kind over 3 with 6.
+ *
+ * A claim of kind 1, 2 or 3 counts on the card side as an earned one. The most claims of kind 3 are kept; with that number the most of
+ * kind 2, then of kind 1, then of kind 0; equal choices go by row order. With N claims in the file, one of kind k weighs N + 1 to the
+ * power k.
+ *
+ * The arguments, the needed lengths and the order of refusals are those of claims_fits_and_rank and of claims_settle, except that the
+ * numbers of the sheet and of the scratch have 64 bits. A mark is at most N + 1 to the power 3, as a whole number of 64 bits: its high
+ * half is 0, whatever it held. The scratch is zero afterwards. The total is at most 69122916864, for 512 kept claims of kind 3.
+ *
+ * A file with kinds 0 and 1 alone keeps the same rows by claims_settle and by claims_settle_kinds, and is refused with the same number.
+ *
+ * file, file_length         the claim file
+ * day                       0 to 6
+ * choice, choice_length     N bytes at least: afterwards 1 for each kept row and 0 for each other row
+ * sheet, sheet_length       G + N numbers at least: afterwards the marks, of the card groups, the shop groups and the claims
+ * scratch, scratch_length   6 * G + 3 * N numbers at least: afterwards zero
+ */
+claims_fits_and_rank_call claims_fits_and_rank_kinds;
+typedef struct claims_settle_kinds_answer claims_settle_kinds_call(
+    const uint8_t *file, size_t file_length,
+    uint32_t day,
+    uint8_t *choice, size_t choice_length,
+    uint64_t *sheet, size_t sheet_length,
+    uint64_t *scratch, size_t scratch_length);
+claims_settle_kinds_call claims_settle_kinds;
 
 /* ---- The slip ---- */
 

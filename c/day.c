@@ -100,7 +100,7 @@ static inline unsigned read_groups(const uint8_t *file, size_t length, unsigned 
     return 0;
 }
 
-static unsigned read_rows(const uint8_t *file, size_t length, size_t *at, struct day *d) {
+static unsigned read_rows(const uint8_t *file, size_t length, unsigned kinds, size_t *at, struct day *d) {
     if (length - *at < 2) return 1;
     unsigned rows = get16(file + *at);
     if (rows > MOST_ROWS) return 4;
@@ -111,7 +111,7 @@ static unsigned read_rows(const uint8_t *file, size_t length, size_t *at, struct
         d->group[SHOP][c] = (uint16_t)get16(file + *at + 2);
         d->kind[c] = file[*at + 4];
         if (d->group[CARD][c] >= d->groups[CARD] || d->group[SHOP][c] >= d->groups[SHOP]) return 5;
-        if (d->kind[c] > 1) return 6;
+        if (d->kind[c] >= kinds) return 6;
     }
     d->rows = rows;
     return 0;
@@ -127,7 +127,7 @@ unsigned read_day(const uint8_t *file, size_t length, struct form form, struct d
         else
             fault = read_groups(file, length, 1, 0, form.stored, &at, d, side);
     }
-    if (!fault) fault = read_rows(file, length, &at, d);
+    if (!fault) fault = read_rows(file, length, form.kinds, &at, d);
     return fault ? fault : at < length ? 7 : 0;
 }
 
@@ -375,13 +375,13 @@ uint64_t worth_of(const struct day *d, const uint8_t *choice) {
     return worth;
 }
 
-int certified(const struct day *d, unsigned kinds, const uint8_t *choice, const uint32_t *sheet) {
-    const uint32_t *marks[2] = {sheet, sheet + d->groups[CARD]}, *row_marks = sheet + d->groups[CARD] + d->groups[SHOP];
+int certified_wide(const struct day *d, unsigned kinds, const uint8_t *choice, const uint64_t *sheet) {
+    const uint64_t *marks[2] = {sheet, sheet + d->groups[CARD]}, *row_marks = sheet + d->groups[CARD] + d->groups[SHOP];
     uint64_t total = 0, most = weight_of(d, kinds - 1);
     for (int side = 0; side < 2; side++)
         for (unsigned g = 0; g < d->groups[side]; g++) {
             if (marks[side][g] > most) return 0;
-            total += (uint64_t)d->limit[side][g] * marks[side][g];
+            total += d->limit[side][g] * marks[side][g];
         }
     for (unsigned c = 0; c < d->rows; c++) {
         uint64_t paid = row_marks[c];
@@ -392,6 +392,12 @@ int certified(const struct day *d, unsigned kinds, const uint8_t *choice, const 
         if (paid < weight_of(d, d->kind[c])) return 0;
     }
     return total == worth_of(d, choice);
+}
+
+int certified(const struct day *d, unsigned kinds, const uint8_t *choice, const uint32_t *sheet) {
+    uint64_t wide[MOST_MARKS];
+    for (size_t i = 0; i < marks_of(d); i++) wide[i] = sheet[i];
+    return certified_wide(d, kinds, choice, wide);
 }
 
 /* ---- Cases ---- */

@@ -80,9 +80,15 @@ enum { OLD, WEEK };
  */
 enum { NEW, STORED };
 
-/* How a call takes a file: its layout, OLD or WEEK; whether it is NEW or STORED; and the weekday whose limits count. */
+/* How many kinds of rows there are under each of the two terms. */
+enum { FIRST_KINDS = 2, SECOND_KINDS = 4 };
+
+/*
+ * How a call takes a file: its layout, OLD or WEEK; whether it is NEW or STORED; the weekday whose limits count; and how many kinds of rows
+ * there are.
+ */
 struct form {
-    unsigned layout, stored, weekday;
+    unsigned layout, stored, weekday, kinds;
 };
 
 /* Writes the claim file of a week. In the old layout the limits are those of weekday 0. */
@@ -109,6 +115,10 @@ struct day lowered(const struct day *d);
 /* The same for each weekday of a week. */
 int is_new_week(const struct week *w);
 struct week lowered_week(const struct week *w);
+
+/* How many marks and how many cells of scratch a day needs. */
+static inline size_t marks_of(const struct day *d) { return d->groups[CARD] + d->groups[SHOP] + d->rows; }
+static inline size_t cells_of(const struct day *d) { return 6 * (d->groups[CARD] + d->groups[SHOP]) + 3 * d->rows; }
 
 /* ---- Days, made and drawn ---- */
 
@@ -201,10 +211,13 @@ uint64_t weight_of(const struct day *d, unsigned kind);
 uint64_t worth_of(const struct day *d, const uint8_t *choice);
 
 /*
- * Whether a sheet of marks shows that no choice weighs more than this one: no mark is over the weight of the highest kind; the marks of
- * each row, and of every group that counts it, come to its weight at least; and the total, in which each group's mark counts as many
- * times as its limit says, is what the chosen rows weigh. The sheet has the marks of the cards, the shops and then the rows.
+ * Whether a sheet of marks, of 64 bits, shows that no choice weighs more than this one: no mark is over the weight of the highest kind;
+ * the marks of each row, and of every group that counts it, come to its weight at least; and the total, in which each group's mark counts
+ * as many times as its limit says, is what the chosen rows weigh. The sheet has the marks of the cards, the shops and then the rows.
  */
+int certified_wide(const struct day *d, unsigned kinds, const uint8_t *choice, const uint64_t *sheet);
+
+/* The same of a sheet whose marks have 32 bits. */
 int certified(const struct day *d, unsigned kinds, const uint8_t *choice, const uint32_t *sheet);
 
 /* ---- Cases ---- */

@@ -7,9 +7,9 @@
  *     ./example 5 < samples/week.claims       settles it for day 5
  *
  * How to read it. What stands between these marks is a comment. `#include` brings in the names that another file declares: claims.h has
- * the library's, and words.h has what each refusal means and how a day is read. The program begins at `main` and goes from line to line;
- * `if` and `for` say which lines, and how often. `x[n]` is a list of n cells where it is declared, and cell n of it, counted from 0,
- * elsewhere. `printf` prints a text; each %u in it stands for a number and each %s for a word.
+ * the library's, and words.h has what each refusal means and how the day and the file are read. The program begins at `main` and goes from
+ * line to line; `if` and `for` say which lines, and how often. `x[n]` is a list of n cells where it is declared, and cell n of it, counted
+ * from 0, elsewhere. `printf` prints a text; each %u in it stands for a number and each %s for a word.
  *
  * The exit status is 0 where the file is settled, 1 where it is refused, 2 where there is none to read and 3 where the day is no number.
  */
@@ -43,16 +43,11 @@ int main(int count, char **words) {
     }
 
     /* The word after the program's own name is the day; where there is none, it is day 0. The file comes by standard input. */
-    uint32_t day = 0;
-    if (count > 2 || (count == 2 && !day_named(words[1], &day))) {
-        fprintf(stderr, "the day has to be one whole number, 0 to 6: %s [DAY] < FILE\n", words[0]);
-        return 3;
-    }
-    size_t length = fread(file, 1, sizeof file, stdin);
-    if (ferror(stdin)) {
-        perror("the claim file");
-        return 2;
-    }
+    uint32_t day;
+    size_t length;
+    int status = read_given(count, words, &day, file, sizeof file, &length);
+    if (status != 0)
+        return status;
 
     /* The call: the file with its length, the day, and then each lent buffer with its length. */
     struct claims_settle_answer answer = claims_settle(

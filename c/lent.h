@@ -18,10 +18,6 @@ static struct {
 /* How many cells each buffer has. */
 enum { CHOICE_CELLS = MOST_ROWS + PAST, SHEET_CELLS = MOST_MARKS + PAST, SCRATCH_CELLS = CLAIMS_LONGEST_SCRATCH + PAST };
 
-/* How many marks and how many cells of scratch a day needs. */
-static inline size_t marks_of(const struct day *d) { return d->groups[CARD] + d->groups[SHOP] + d->rows; }
-static inline size_t cells_of(const struct day *d) { return CLAIMS_SCRATCH_LENGTH(d->groups[CARD] + d->groups[SHOP], d->rows); }
-
 /* What a cell holds before a call. */
 static uint32_t filler(size_t i) { return (uint32_t)(i * 2654435761u + 12345u); }
 

@@ -4,9 +4,10 @@
  * call and lies between guards, which the call must leave alone; in one cell less of scratch it must tell 8 and change nothing.
  */
 #include <string.h>
+#include "guarded.h"
 #include "sorts.h"
 
-enum { SMALL_ROWS = 8, GUARD = 16, GUARD_BYTES = GUARD * sizeof(uint32_t) };
+enum { SMALL_ROWS = 8 };
 
 /* The sort whose turn it is, and the weekday that the calls name. */
 static const struct sort *by;
@@ -14,48 +15,12 @@ static unsigned weekday;
 
 static struct file file;
 
-/* A lent buffer: so many bytes behind the guard, and a guard behind them. */
-struct buffer {
-    size_t length;
-    uint32_t cells[GUARD + CLAIMS_LONGEST_SCRATCH + GUARD];
-};
-static struct buffer choice, sheet, scratch;
-
-static uint32_t *cells_in(struct buffer *b) { return b->cells + GUARD; }
-static uint8_t *bytes_in(struct buffer *b) { return (uint8_t *)cells_in(b); }
-
-/* What byte i holds before a call: all bits, or a number that follows from its place. */
-static unsigned salt;
-static uint8_t dirt(size_t i) { return salt ? (uint8_t)((uint32_t)(i + salt) * 2654435761u >> 20) : 0xff; }
-
-/* Both guards and what is between them, from the first byte of the one to the last of the other. */
-static void fill(struct buffer *b, size_t length) {
-    uint8_t *bytes = (uint8_t *)b->cells;
-    b->length = length;
-    for (size_t i = 0; i < length + 2 * GUARD_BYTES; i++) bytes[i] = dirt(i);
-}
-
-/* Whether a buffer holds what it held before in both guards, and from byte `from` on between them. */
-static int left_alone(const struct buffer *b, size_t from) {
-    const uint8_t *bytes = (const uint8_t *)b->cells;
-    for (size_t i = 0; i < b->length + 2 * GUARD_BYTES; i++)
-        if ((i < GUARD_BYTES || i >= GUARD_BYTES + from) && bytes[i] != dirt(i)) return 0;
-    return 1;
-}
-
-static int all_zero(struct buffer *b) {
-    for (size_t i = 0; i < b->length; i++)
-        if (bytes_in(b)[i] != 0) return 0;
-    return 1;
-}
-
 /* Document 02's numbers: a byte a row, a mark for each group and row, and 6 cells for each group and 3 for each row. */
 static void lend(const struct day *d) {
-    unsigned groups = d->groups[CARD] + d->groups[SHOP];
     salt = below(4) ? 1 + below(1000) : 0;
     fill(&choice, d->rows);
-    fill(&sheet, sizeof(uint32_t) * (groups + d->rows));
-    fill(&scratch, sizeof(uint32_t) * (6 * groups + 3 * d->rows));
+    fill(&sheet, sizeof(uint32_t) * marks_of(d));
+    fill(&scratch, sizeof(uint32_t) * cells_of(d));
 }
 
 static struct claims_settle_answer settle(size_t less) {
@@ -76,22 +41,19 @@ static void in_exact_memory(const struct day *d, uint8_t *kept, uint8_t *codes) 
     lend(d);
     struct claims_settle_answer r = settle(0);
     memcpy(kept, bytes_in(&choice), d->rows);
-    expect(left_alone(&choice, choice.length) && left_alone(&sheet, sheet.length) && left_alone(&scratch, scratch.length),
-           "settle changed a guard");
+    expect(all_left_alone(choice.length, sheet.length, scratch.length), "settle changed a guard");
     expect(r.refusal == 0 && r.earned == count_rows(d, kept, 1) && r.kept == count_rows(d, kept, 0) && r.total == worth_of(d, kept) &&
-               fits_day(d, kept) && certified(&low, 2, kept, cells_in(&sheet)) && all_zero(&scratch),
+               fits_day(d, kept) && certified(&low, 2, kept, cells_in(&sheet)) && all_zero(&scratch, scratch.length),
            "what settle answers and leaves");
     lend(d);
     struct claims_write_codes_answer w = write_codes(0);
     memcpy(codes, bytes_in(&choice), d->rows);
-    expect(left_alone(&choice, choice.length) && left_alone(&sheet, 0) && left_alone(&scratch, scratch.length), "the codes changed a guard");
-    expect(w.refusal == 0 && w.length == d->rows && all_zero(&scratch), "what the codes answer and leave");
+    expect(all_left_alone(choice.length, 0, scratch.length), "the codes changed a guard");
+    expect(w.refusal == 0 && w.length == d->rows && all_zero(&scratch, scratch.length), "what the codes answer and leave");
     if (scratch.length == 0) return;
     lend(d);
     r = settle(1), w = write_codes(1);
-    expect(r.refusal == CLAIMS_SHORT && w.refusal == CLAIMS_SHORT && left_alone(&choice, 0) && left_alone(&sheet, 0) &&
-               left_alone(&scratch, 0),
-           "scratch one cell short");
+    expect(r.refusal == CLAIMS_SHORT && w.refusal == CLAIMS_SHORT && all_left_alone(0, 0, 0), "scratch one cell short");
 }
 
 /* The search keeps the same rows; and of the earned rows with code 1, or 2, as many are kept as fit the shop side, or the card side. */

@@ -1,10 +1,12 @@
 /*
- * Words that example.c and accept.c share: what each refusal means, and the day that a word names. c/example.c says how to read C.
+ * What the examples and accept.c share: what each refusal means, the day that a word names, and for the examples how the day and the file
+ * are read. c/example.c says how to read C.
  */
 #ifndef WORDS_H
 #define WORDS_H
 
 #include <stdbool.h>
+#include <stdio.h>
 #include "claims.h"
 
 /* What each refusal means, by its number: the words of README's table. */
@@ -41,6 +43,25 @@ static inline bool day_named(const char *word, uint32_t *day) {
     }
     *day = (uint32_t)number;
     return word[0] != '\0';
+}
+
+/*
+ * Reads what an example is given: the day from the word after the program's own name, 0 where there is none, and the claim file from the
+ * standard input, at most as many bytes as there is room for. Answers 0, or says what is wrong and answers the exit status: 2 where the
+ * file cannot be read, 3 where the day is no number.
+ */
+static inline int read_given(int count, char **words, uint32_t *day, uint8_t *file, size_t room, size_t *length) {
+    *day = 0;
+    if (count > 2 || (count == 2 && !day_named(words[1], day))) {
+        fprintf(stderr, "the day has to be one whole number, 0 to 6: %s [DAY] < FILE\n", words[0]);
+        return 3;
+    }
+    *length = fread(file, 1, room, stdin);
+    if (ferror(stdin)) {
+        perror("the claim file");
+        return 2;
+    }
+    return 0;
 }
 
 #endif

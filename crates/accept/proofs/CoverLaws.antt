@@ -24,10 +24,10 @@ use Rattle.theory.proofs.TestLaws.{either, every-true, true-every}
 use Rattle.theory.proofs.NetworkLaws.{charge-both}
 use Rattle.theory.proofs.PriorityLaws.{weight-two-top}
 use Rattle.claimfile.specs.Day.{groupsOf, kindOf, networkOf, instanceOf, cardNode, shopNode}
-use Rattle.claimfile.specs.Sound.{Sound}
+use Rattle.claimfile.specs.File.{firstTerms}
+use Rattle.claimfile.specs.Sound.{Sound, Kinds}
 use Rattle.claimfile.specs.declared.Layout.{Layout}
 use Rattle.closing.specs.Settle.{markOf, claimMarkOf}
-use Rattle.closing.proofs.SettleLaws.{kinds-two}
 use Rattle.accept.specs.Accept.{weights, covers, covered}
 use Rattle.accept.specs.Judge.{priceOf, Priced, groupTotal, rowTotal}
 use Rattle.accept.proofs.TableLaws.{priced-at}
@@ -74,10 +74,10 @@ leb-capped w m a b small =
           lt-leb w (m + (min a maxLimit + min b maxLimit)) (omega arith) ∙ sym (lt-leb w (m + (a + b)) (omega arith))
     ]
 
-module _ (s : List ℕ) (l : Layout) (sound : Sound s l) where
+module _ (s : List ℕ) (l : Layout) (sound : Sound s l) (two : Kinds firstTerms s l) where
   pub weight-price : (c : ℕ) → c < l .rows → weights (instanceOf s l) c ≤ maxLimit
   weight-price c h =
-      omega (arith, sound .rows-most, weight-two-top (l .rows) (kindOf s l) (kinds-two s l sound) c h)
+      omega (arith, sound .rows-most, weight-two-top (l .rows) (kindOf s l) two c h)
 
   module _ (sheet t : List ℕ) (p : Priced s l sheet t (groupsOf l)) (c : ℕ) (inside : c < l .rows) where
     pub covers-is :

@@ -8,7 +8,7 @@ use Rattle.theory.specs.Lowered.{lowered}
 use Rattle.theory.specs.Incidence.{load, fits, charge}
 use Rattle.theory.specs.Network.{onSide, onBoth, fitsBoth}
 use Rattle.theory.specs.Priority.{weightOf}
-use Rattle.claimfile.specs.File.{noneAbove, groupFault, claimFault, recordsFrom, countFault, sectionAt, claimsAt, reading}
+use Rattle.claimfile.specs.File.{noneAbove, groupFault, claimFault, recordsFrom, countFault, sectionAt, claimsAt, readingIn}
 use Rattle.claimfile.specs.Day.{parentOf, writtenOf, limitOf, cardNode, shopNode}
 use Rattle.limits.specs.Answers.{bits}
 use Rattle.accept.specs.Accept.{covered, judged, verdict, verdictNumber}
@@ -18,7 +18,7 @@ pub examples-told :
     map (λ (e : Example). verdictNumber (verdict (e .given) (e .file) (e .choice) (e .sheet))) examples
     ≡ map (λ (e : Example). e .number) examples
 unfolding
-    noneAbove groupFault claimFault recordsFrom countFault sectionAt claimsAt reading parentOf writtenOf limitOf cardNode shopNode
+    noneAbove groupFault claimFault recordsFrom countFault sectionAt claimsAt readingIn parentOf writtenOf limitOf cardNode shopNode
     sum is same every steps walk chain lowered load fits charge onSide onBoth fitsBoth weightOf bits covered judged verdict
     ℕ-discrete decLt
 examples-told = refl

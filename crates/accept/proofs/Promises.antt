@@ -28,14 +28,14 @@ use Rattle.claimfile.specs.declared.Reading.{Reading}
 use Rattle.claimfile.specs.declared.Reading.the-variants as reading-is
 use Rattle.claimfile.specs.File.{asStored, reading}
 use Rattle.claimfile.specs.Day.{kindOf, limitOf, networkOf, instanceOf}
-use Rattle.claimfile.proofs.AcceptedLaws.{accepted-sound}
+use Rattle.claimfile.proofs.AcceptedLaws.{accepted-sound, accepted-kinds}
 use Rattle.claimfile.proofs.StoredLaws.{new-stored}
 use Rattle.closing.specs.Settle.{markOf, claimMarkOf, Settles}
 use Rattle.closing.specs.declared.Settled.{Settled}
 use Rattle.closing.specs.declared.Settled.the-variants.{Closed}
 use Rattle.closing.specs.declared.Totals.{Totals}
 use Rattle.closing.proofs.Demand as demand
-use Rattle.closing.proofs.SettleLaws.{kinds-two, day-formed}
+use Rattle.closing.proofs.SettleLaws.{day-formed}
 use Rattle.accept.specs.declared.Verdict.{Verdict}
 use Rattle.accept.specs.Accept.{verdictBy, verdict, verdictNumber, weights, Accepts, Acceptable, Judges}
 
@@ -85,9 +85,10 @@ module _ (f : Form) (s ch sheet : List ℕ) (v : Verdict) (J : Judges f s ch she
       size (closing .layout .rows) Y ≤ size (closing .layout .rows) (row ch))
   accepted-most Y fits =
       let l = closing .layout in
-      let sound = accepted-sound f s l (closing .accepted) in (
-        most-earned (instanceOf s l) (day-formed s l sound) (kinds-two s l sound) ch sheet (closing .accepts) Y fits,
-        most-rows (instanceOf s l) (day-formed s l sound) (kinds-two s l sound) ch sheet (closing .accepts) Y fits,
+      let formed = day-formed s l (accepted-sound f s l (closing .accepted)) in
+      let two = accepted-kinds f s l (closing .accepted) in (
+        most-earned (instanceOf s l) formed two ch sheet (closing .accepts) Y fits,
+        most-rows (instanceOf s l) formed two ch sheet (closing .accepts) Y fits,
       )
 
 module _ (f : Form) (s ch sheet t ch′ sheet′ t′ : List ℕ) (r : Settled) (a : Totals) where

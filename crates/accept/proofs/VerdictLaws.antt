@@ -18,7 +18,7 @@ use Rattle.theory.specs.Incidence.{Selection}
 use Rattle.theory.specs.Matroid.{row}
 use Rattle.theory.specs.Network.{Instance, fitsBoth}
 use Rattle.theory.proofs.TestLaws.{either, both-true, true-both}
-use Rattle.claimfile.specs.File.{days, reading}
+use Rattle.claimfile.specs.File.{firstTerms, days, reading}
 use Rattle.claimfile.specs.Day.{networkOf, instanceOf}
 use Rattle.claimfile.specs.declared.Form.{Form}
 use Rattle.claimfile.specs.declared.Layout.{Layout}
@@ -35,6 +35,7 @@ use Rattle.accept.specs.declared.Verdict.{Verdict}
 use Rattle.accept.specs.declared.Verdict.the-variants.{Accepted, Refused}
 use Rattle.accept.specs.Accept.{covered, judged, sheetTotal, weightKept, Accepts, verdictBy, verdict, verdictNumber}
 use Rattle.accept.specs.Accept.{Acceptable, Judges}
+use Rattle.closing.specs.Close.{Countable}
 use Rattle.accept.specs.Judge.{Sheeted, Judgeable}
 use Rattle.accept.proofs.CoverLaws.{covered-true, true-covered}
 
@@ -57,7 +58,11 @@ unfolding fitsBoth
 both-found i ch card shop c s = ap₂ _&&_ (ap (λ (x : Found). x .fits) c) (ap (λ (x : Found). x .fits) s)
 
 pub judgeable-sheeted : (s : List ℕ) (l : Layout) (ch sheet : List ℕ) → Judgeable s l ch sheet → Sheeted s l sheet
-judgeable-sheeted s l ch sheet j = record { sound = j .ready .sound; sheets = j .sheets }
+judgeable-sheeted s l ch sheet j = record { sound = j .ready .sound; kinds = j .kinds; sheets = j .sheets }
+
+pub judgeable-countable : (s : List ℕ) (l : Layout) (ch sheet : List ℕ) → Judgeable s l ch sheet → Countable firstTerms s l ch
+judgeable-countable s l ch sheet j =
+    record { sound = j .ready .sound; kinds = j .kinds; long = j .ready .long; bits = j .ready .bits }
 
 module _ (i : Instance) (ch sheet : List ℕ) where
   pub judged-unfit : fitsBoth (i .net) (i .limit) (row ch) ≡ false → Refused Unfit ≡ judged i ch sheet

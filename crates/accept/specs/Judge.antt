@@ -1,7 +1,7 @@
 -- How a sheet is judged, group by group and row by row.
 --   nodes                  a cell for each group of both sides, and one for each root
 --   mostProduct            no limit × mark is over it: 2 ^ 48
---   Sheeted s l sheet      a sound file with a sheet that is long enough
+--   Sheeted s l sheet      a sound file with two kinds of claims, and a sheet that is long enough
 --   Judgeable s l ch sheet     the same with a choice of 0s and 1s
 --   Zeros t                a table with a cell for each node, all 0
 --   priceOf s l sheet v    the price of a node: the marks from it up to the top
@@ -17,7 +17,8 @@ use Rattle.theory.specs.Sum.{sum}
 use Rattle.theory.specs.Chain.{path}
 use Rattle.theory.specs.Matroid.{row}
 use Rattle.claimfile.specs.Day.{groupsOf, parentOf, limitOf, networkOf}
-use Rattle.claimfile.specs.Sound.{Sound}
+use Rattle.claimfile.specs.File.{firstTerms}
+use Rattle.claimfile.specs.Sound.{Sound, Kinds}
 use Rattle.claimfile.specs.declared.Layout.{Layout}
 use Rattle.limits.specs.Ready.{Ready}
 use Rattle.closing.specs.Settle.{needed, markOf}
@@ -30,10 +31,12 @@ mostProduct = (maxLimit + 1) * cellBound
 
 pub record Sheeted (s : List ℕ) (l : Layout) (sheet : List ℕ) : Type 0 where
   pub sound : Sound s l
+  pub kinds : Kinds firstTerms s l
   pub sheets : needed (networkOf s l) ≤ length sheet
 
 pub record Judgeable (s : List ℕ) (l : Layout) (ch sheet : List ℕ) : Type 0 where
   pub ready : Ready s ch l
+  pub kinds : Kinds firstTerms s l
   pub sheets : needed (networkOf s l) ≤ length sheet
 
 pub record Zeros (t : List ℕ) : Type 0 where

@@ -18,8 +18,8 @@ use super::wide;
 use claimfile::Layout;
 use claimfile::claim_of;
 use tables::write::card_node;
+use tables::write::power;
 use tables::write::shop_node;
-use tables::write::weight_of;
 
 // The greatest price that a cell holds. It is more than any claim weighs.
 const PRICE: u64 = 65535;
@@ -75,7 +75,7 @@ fn covers_row(file: &[u8], layout: Layout, c: usize, sheet: &[u32], prices: &[u1
     let shop = shop_node(layout, claim);
     let price = price_of(card, shop, prices);
     let own = layout.cards + layout.shops + c;
-    long(weight_of(layout, claim)) <= wide(sheet[own]) + price
+    long(power(layout.rows, claim.kind)) <= wide(sheet[own]) + price
 }
 
 // Whether it covers every row.

@@ -14,7 +14,9 @@ ghost use Rattle.theory.specs.Bounds.{maxLimit, cellBound};
 ghost use Rattle.theory.specs.Matroid.{row};
 ghost use Rattle.theory.specs.Network.{fitsBoth};
 ghost use Rattle.claimfile.specs.Day.{groupsOf, parentOf, writtenOf, limitOf, networkOf, instanceOf};
-ghost use Rattle.claimfile.specs.Sound.{Sound};
+ghost use Rattle.claimfile.specs.File.{firstTerms};
+ghost use Rattle.claimfile.specs.Sound.{Sound, Kinds};
+ghost use Rattle.closing.specs.Close.{Countable};
 ghost use Rattle.claimfile.specs.declared.Reading.the-variants.{Accepted};
 ghost use Rattle.limits.specs.Ready.{Ready};
 ghost use Rattle.accept.specs.Accept.{judged, weightKept, verdictBy, verdictNumber, Judges};
@@ -93,7 +95,7 @@ fn node_at(file: &[u8], layout: Layout, v: usize) -> Group
 
 // The weight of the kept rows.
 fn weight_kept(file: &[u8], layout: Layout, choice: &[u8]) -> u64
-    requires { ⌜ Ready (now file) (now choice) layout ⌝ }
+    requires { ⌜ Countable firstTerms (now file) layout (now choice) ⌝ }
     ensures { λ r. ⌜ r ≡ weightKept (instanceOf (now (file .entry)) layout) (now (choice .entry)) ⌝ }
 {
     let counts = count_rows(file, layout, choice);
@@ -140,7 +142,7 @@ fn judge(file: &[u8], layout: Layout, choice: &[u8], sheet: &[u32]) -> Verdict
 
 // Judges a choice and a sheet that were sent with an accepted file.
 pub fn accept_on(file: &[u8], layout: Layout, choice: &[u8], sheet: &[u32]) -> Verdict
-    requires { ⌜ Sound (now file) layout ⌝ }
+    requires { ⌜ (Sound (now file) layout) × (Kinds firstTerms (now file) layout) ⌝ }
     ensures { λ r. ⌜ r ≡ verdictBy (now (file .entry)) (Accepted layout) (now (choice .entry)) (now (sheet .entry)) ⌝ }
 {
     let rows = layout.rows;

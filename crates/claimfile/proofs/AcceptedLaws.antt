@@ -4,7 +4,9 @@
 --   group-fine claim-fine      the fields of a group and of a claim without a fault
 --   taken section-read section-fine    a section that was read
 --   sectionIn accepted-sections    the group sections of an accepted file are those of its layout
+--   accords-in                 what holds of a file that is accepted with K kinds. Under the first terms:
 --   accepted-sound             an accepted file is sound
+--   accepted-kinds             and its claims are of kind 0 or 1
 --   accepted-week accepted-day its layout is the form's, and so is the day
 --   accepted-rows              the count of its claims stands before the first of them
 --   accepted-stored            it is accepted as a stored file too
@@ -21,14 +23,15 @@ use native.Mathlib.Numerals.{add-one}
 use native.Mathlib.Nat.{sub-zero, mul-zero, mul-suc}
 use native.Mathlib.Omega.{arith}
 use lib.ListN.{length, drop, length-drop}
-use borrow.Author.Tests.{lt-ltb, lt-leb, le-leb}
+use borrow.Author.Tests.{lt-leb, le-leb}
 use Rattle.theory.specs.Bounds.{maxGroups, maxRows}
-use Rattle.claimfile.specs.File.{asStored, forDay, top, columns, columnOf, groupWidth, claimWidth, word, limitAt, recordAt, claimAt}
+use Rattle.claimfile.specs.File.{firstTerms, asStored, forDay, top, columns, columnOf, groupWidth, claimWidth}
+use Rattle.claimfile.specs.File.{word, limitAt, recordAt, claimAt}
 use Rattle.claimfile.specs.File.{noneAbove, groupFault, claimFault, recordsFrom}
-use Rattle.claimfile.specs.File.{groupsFrom, rowsFrom, countFault, sectionOf, sectionBy, sectionAt, claimsAt, reading}
+use Rattle.claimfile.specs.File.{groupsFrom, rowsFrom, countFault, sectionOf, sectionBy, sectionAt, claimsAt, readingIn, reading}
 use Rattle.claimfile.specs.Sections.{behind, sectionOn}
 use Rattle.claimfile.specs.Day.{startOf, countOf, onDay}
-use Rattle.claimfile.specs.Sound.{SmallerOrTop, Sound, NoneAbove}
+use Rattle.claimfile.specs.Sound.{SmallerOrTop, Sound, Kinds, NoneAbove}
 use Rattle.claimfile.specs.declared.Form.{Form}
 use Rattle.claimfile.specs.declared.Refusal.{Refusal}
 use Rattle.claimfile.specs.declared.Refusal.the-variants.{GroupCount, ClaimCount, NoSuchGroup, Kind}
@@ -146,21 +149,23 @@ module _ (f : Form) (s : List ℕ) (start own : ℕ) where
       ]
 
 -- the fields of a claim without a fault
-record FineClaim (claim : Claim) (cards shops : ℕ) : Type 0 where
+record FineClaim (K : ℕ) (claim : Claim) (cards shops : ℕ) : Type 0 where
   card : claim .card < cards
   shop : claim .shop < shops
-  kind : claim .kind ≤ 1
+  kind : claim .kind < K
 
-claim-fine : (claim : Claim) (cards shops : ℕ) → claimFault claim cards shops ≡ Fine → FineClaim claim cards shops
+claim-fine : (K : ℕ) (claim : Claim) (cards shops : ℕ) → claimFault K claim cards shops ≡ Fine → FineClaim K claim cards shops
 unfolding claimFault
-claim-fine claim cards shops e =
+claim-fine K claim cards shops e =
     elim (decLt (claim .card) cards) [
       | yes card ↦
           elim (decLt (claim .shop) shops) [
             | yes shop ↦
-                elim (decLt 1 (claim .kind)) [
-                  | yes large ↦ never _ Kind e (rw (lt-leb _ _ card, lt-leb _ _ shop, lt-ltb _ _ large))
-                  | no kind ↦ record { card = card; shop = shop; kind = omega arith }
+                elim (decLt (claim .kind) K) [
+                  | yes kind ↦ record { card = card; shop = shop; kind = kind }
+                  | no h ↦
+                      let large : K ≤ claim .kind = omega arith in
+                      never _ Kind e (rw (lt-leb _ _ card, lt-leb _ _ shop, le-leb _ _ large))
                 ]
             | no h ↦
                 let large : shops ≤ claim .shop = omega arith in
@@ -237,8 +242,8 @@ module _ (s : List ℕ) (at most : ℕ) (over : Refusal) (width : ℕ) (checked 
 abbrev pub GroupFits : Form → List ℕ → ℕ → ℕ → Type 0
 GroupFits f s start = FineGroup f s start
 
-abbrev RowFits : List ℕ → ℕ → ℕ → ℕ → ℕ → Type 0
-RowFits s cards shops start c = FineClaim (claimAt (drop start s) c) cards shops
+abbrev RowFits : ℕ → List ℕ → ℕ → ℕ → ℕ → ℕ → Type 0
+RowFits K s cards shops start c = FineClaim K (claimAt (drop start s) c) cards shops
 
 module _ (s : List ℕ) (at count start next : ℕ) where
   module _ (f : Form) (e : sectionAt f s at ≡ Read count start next) where
@@ -277,18 +282,18 @@ module _ (s : List ℕ) (at count start next : ℕ) where
         ap (sectionBy s at maxGroups GroupCount wide) (stored ∙ sym fine) ∙ e
 
   claims-read :
-      (cards shops : ℕ) → claimsAt s at cards shops ≡ Read count start next →
-      Taken s at maxRows claimWidth (RowFits s cards shops) count start next
+      (K cards shops : ℕ) → claimsAt K s at cards shops ≡ Read count start next →
+      Taken s at maxRows claimWidth (RowFits K s cards shops) count start next
   unfolding claimsAt
-  claims-read cards shops =
-      taken s at maxRows ClaimCount claimWidth (rowsFrom (drop (at + 2) s) cards shops 0 (word s at)) count start next
-      (RowFits s cards shops)
+  claims-read K cards shops =
+      taken s at maxRows ClaimCount claimWidth (rowsFrom K (drop (at + 2) s) cards shops 0 (word s at)) count start next
+      (RowFits K s cards shops)
       (λ f c l.
       let r =
-      records-fine (length (drop (at + 2) s)) 0 claimWidth (λ c. claimFault (claimAt (drop (at + 2) s) c) cards shops)
+      records-fine (length (drop (at + 2) s)) 0 claimWidth (λ c. claimFault K (claimAt (drop (at + 2) s) c) cards shops)
       (word s at) f c l
       in
-      (omega (arith, r .whole, length-drop (at + 2) s), claim-fine (claimAt (drop (at + 2) s) c) cards shops (r .fine)))
+      (omega (arith, r .whole, length-drop (at + 2) s), claim-fine K (claimAt (drop (at + 2) s) c) cards shops (r .fine)))
 
 --------------------------------------------------------------------------------
 -- The file
@@ -302,19 +307,20 @@ section-day : (f : Form) (s : List ℕ) (at d : ℕ) → sectionAt (forDay f d) 
 unfolding sectionAt groupFault
 section-day f s at d = refl
 
--- what holds of a file that is accepted in a form
-record Accords (f : Form) (s : List ℕ) (l : Layout) : Type 0 where
-  week : l .week ≡ f .week
-  day : l .day ≡ f .day
-  sections : (side : ℕ) → side < 2 → sectionOn f s side ≡ sectionIn l side
-  sound : Sound s l
-  rows : word s (l .«row_at» - 2) ≡ l .rows
-  stored : reading (asStored f) s ≡ Accepted l
-  on : (d : ℕ) → reading (forDay f d) s ≡ Accepted (onDay l d)
-  below : f .stored ≡ false → NoneAbove s l
+-- what holds of a file with K kinds that is accepted in a form
+pub record Accords (K : ℕ) (f : Form) (s : List ℕ) (l : Layout) : Type 0 where
+  pub week : l .week ≡ f .week
+  pub day : l .day ≡ f .day
+  pub sections : (side : ℕ) → side < 2 → sectionOn f s side ≡ sectionIn l side
+  pub sound : Sound s l
+  pub rows : word s (l .«row_at» - 2) ≡ l .rows
+  pub kinds : Kinds K s l
+  pub stored : readingIn K (asStored f) s ≡ Accepted l
+  pub on : (d : ℕ) → readingIn K (forDay f d) s ≡ Accepted (onDay l d)
+  pub below : f .stored ≡ false → NoneAbove s l
 
 -- three sections that were read, one behind the other, up to the end of the file
-module _ (f : Form) (s : List ℕ) (cards cardAt next shops shopAt after rows rowAt end : ℕ) where
+module _ (K : ℕ) (f : Form) (s : List ℕ) (cards cardAt next shops shopAt after rows rowAt end : ℕ) where
   abbrev l : Layout
   l = record {
     week = f .week;
@@ -329,8 +335,8 @@ module _ (f : Form) (s : List ℕ) (cards cardAt next shops shopAt after rows ro
 
   accords :
       sectionAt f s 0 ≡ Read cards cardAt next → sectionAt f s next ≡ Read shops shopAt after →
-      Taken s after maxRows claimWidth (RowFits s cards shops) rows rowAt end → length s ≤ end →
-      reading (asStored f) s ≡ Accepted l → ((d : ℕ) → reading (forDay f d) s ≡ Accepted (onDay l d)) → Accords f s l
+      Taken s after maxRows claimWidth (RowFits K s cards shops) rows rowAt end → length s ≤ end →
+      readingIn K (asStored f) s ≡ Accepted l → ((d : ℕ) → readingIn K (forDay f d) s ≡ Accepted (onDay l d)) → Accords K f s l
   accords cards-are shops-are taken h stored on =
       record {
         week = refl;
@@ -338,6 +344,7 @@ module _ (f : Form) (s : List ℕ) (cards cardAt next shops shopAt after rows ro
         sections = sections;
         sound = sound;
         rows = counted;
+        kinds = λ c m. taken .each c m .kind;
         stored = stored;
         on = on;
         below = below;
@@ -380,50 +387,54 @@ module _ (f : Form) (s : List ℕ) (cards cardAt next shops shopAt after rows ro
         parents = λ side g m. groups side g m .parent;
         row-cards = λ c m. taken .each c m .card;
         row-shops = λ c m. taken .each c m .shop;
-        row-kinds = λ c m. taken .each c m .kind;
       }
 
-module _ (f : Form) (s : List ℕ) (l : Layout) (is : reading f s ≡ Accepted l) where
-  refused : {A : Type 0} (why : Refusal) → reading f s ≡ Refused why → A
-  refused why e = not-both (reading f s) l why is e
+module _ (K : ℕ) (f : Form) (s : List ℕ) (l : Layout) (is : readingIn K f s ≡ Accepted l) where
+  refused : {A : Type 0} (why : Refusal) → readingIn K f s ≡ Refused why → A
+  refused why e = not-both (readingIn K f s) l why is e
 
   through-claims :
       (cards cardAt next shops shopAt after : ℕ) → sectionAt f s 0 ≡ Read cards cardAt next →
-      sectionAt f s next ≡ Read shops shopAt after → (x : Section) → claimsAt s after cards shops ≡ x → Accords f s l
+      sectionAt f s next ≡ Read shops shopAt after → (x : Section) → claimsAt K s after cards shops ≡ x → Accords K f s l
   through-claims cards cardAt next shops shopAt after cards-are shops-are (Faulty why) e =
-      refused why (claims-fault f s cards cardAt next cards-are shops shopAt after shops-are why e)
+      refused why (claims-fault K f s cards cardAt next cards-are shops shopAt after shops-are why e)
   through-claims cards cardAt next shops shopAt after cards-are shops-are (Read rows rowAt end) e =
       elim (decLt end (length s)) [
         | yes more ↦
-            refused _ (trailing f s cards cardAt next cards-are shops shopAt after shops-are rows rowAt end e more)
+            refused _ (trailing K f s cards cardAt next cards-are shops shopAt after shops-are rows rowAt end e more)
         | no h ↦
             let whole : length s ≤ end = omega arith in
-            subst (Accords f s)
+            subst (Accords K f s)
             (one-layout _ _ _
-            (accepted f s cards cardAt next cards-are shops shopAt after shops-are rows rowAt end e whole) is)
-            (accords f s cards cardAt next shops shopAt after rows rowAt end cards-are shops-are
-            (claims-read s after rows rowAt end cards shops e) whole
-            (accepted (asStored f) s cards cardAt next (section-stored s 0 cards cardAt next f cards-are) shops shopAt after
+            (accepted K f s cards cardAt next cards-are shops shopAt after shops-are rows rowAt end e whole) is)
+            (accords K f s cards cardAt next shops shopAt after rows rowAt end cards-are shops-are
+            (claims-read s after rows rowAt end K cards shops e) whole
+            (accepted K (asStored f) s cards cardAt next (section-stored s 0 cards cardAt next f cards-are) shops shopAt after
             (section-stored s next shops shopAt after f shops-are) rows rowAt end e whole)
             (λ d.
-            accepted (forDay f d) s cards cardAt next (section-day f s 0 d ∙ cards-are) shops shopAt after
+            accepted K (forDay f d) s cards cardAt next (section-day f s 0 d ∙ cards-are) shops shopAt after
             (section-day f s next d ∙ shops-are) rows rowAt end e whole))
       ]
 
   through-shops :
       (cards cardAt next : ℕ) → sectionAt f s 0 ≡ Read cards cardAt next → (x : Section) → sectionAt f s next ≡ x →
-      Accords f s l
+      Accords K f s l
   through-shops cards cardAt next cards-are (Faulty why) e =
-      refused why (shops-fault f s cards cardAt next cards-are why e)
+      refused why (shops-fault K f s cards cardAt next cards-are why e)
   through-shops cards cardAt next cards-are (Read shops shopAt after) e =
-      through-claims cards cardAt next shops shopAt after cards-are e (claimsAt s after cards shops) refl
+      through-claims cards cardAt next shops shopAt after cards-are e (claimsAt K s after cards shops) refl
 
-  through-cards : (x : Section) → sectionAt f s 0 ≡ x → Accords f s l
-  through-cards (Faulty why) e = refused why (cards-fault f s why e)
+  through-cards : (x : Section) → sectionAt f s 0 ≡ x → Accords K f s l
+  through-cards (Faulty why) e = refused why (cards-fault K f s why e)
   through-cards (Read cards cardAt next) e = through-shops cards cardAt next e (sectionAt f s next) refl
 
-  all : Accords f s l
-  all = through-cards (sectionAt f s 0) refl
+  pub accords-in : Accords K f s l
+  accords-in = through-cards (sectionAt f s 0) refl
+
+-- under the first terms
+module _ (f : Form) (s : List ℕ) (l : Layout) (is : reading f s ≡ Accepted l) where
+  all : Accords firstTerms f s l
+  all = accords-in firstTerms f s l is
 
   pub accepted-week : l .week ≡ f .week
   accepted-week = all .week
@@ -439,6 +450,9 @@ module _ (f : Form) (s : List ℕ) (l : Layout) (is : reading f s ≡ Accepted l
 
   pub accepted-rows : word s (l .«row_at» - 2) ≡ l .rows
   accepted-rows = all .rows
+
+  pub accepted-kinds : Kinds firstTerms s l
+  accepted-kinds = all .kinds
 
   pub accepted-stored : reading (asStored f) s ≡ Accepted l
   accepted-stored = all .stored

@@ -11,7 +11,8 @@ use Prim.Native.Nat.{ℕ, zero, suc, _+_, _*_, _<_, _≤_}
 use native.Mathlib.Omega.{arith}
 use lib.ListN.{length, drop, length-drop}
 use Rattle.theory.specs.Bounds.{maxRows}
-use Rattle.claimfile.specs.File.{columnOf, groupWidth, claimWidth, word, claimFault, rowsFrom, sectionAt, claimsAt, reading}
+use Rattle.claimfile.specs.File.{firstTerms, columnOf, groupWidth, claimWidth, word, claimFault, rowsFrom}
+use Rattle.claimfile.specs.File.{sectionAt, claimsAt, reading}
 use Rattle.claimfile.specs.Sections.{behind, placeOn, OwnBytes, withRows}
 use Rattle.claimfile.specs.Day.{countOf, groupOf, claims, claimOf, namedCard, namedShop, kindOf}
 use Rattle.claimfile.specs.Sound.{Sound}
@@ -23,12 +24,12 @@ use Rattle.claimfile.specs.declared.Section.the-variants.{Read}
 use Rattle.claimfile.specs.declared.Reading.{Reading}
 use Rattle.claimfile.specs.declared.Reading.the-variants.{Accepted}
 use Rattle.claimfile.specs.declared.Layout.{Layout}
-use Rattle.claimfile.proofs.FileLaws.{records-pass, accepted}
+use Rattle.claimfile.proofs.FileLaws.{claim-passes, records-pass, accepted}
 use Rattle.claimfile.proofs.WidthLaws.{width-split, width-inside, column-small}
 use Rattle.claimfile.proofs.AcceptedLaws.{accepted-week, accepted-day, accepted-sections, accepted-sound}
 use Rattle.claimfile.proofs.SectionLaws.{group-own, section-own}
 use Rattle.claimfile.proofs.PutLaws.{same-cell}
-use Rattle.claimfile.proofs.WrittenLaws.{section-passes, claim-passes}
+use Rattle.claimfile.proofs.WrittenLaws.{section-passes}
 
 -- the same places
 abbrev placed : Bool → ℕ → Layout → ℕ → ℕ → ℕ → ℕ → Reading
@@ -137,22 +138,23 @@ module _ (f : Form) (s : List ℕ) (l : Layout) (is : reading f s ≡ Accepted l
         count-here : word t after ≡ n
         count-here = ap (word t) behind-groups ∙ counted
 
-        rows-fine : rowsFrom (claims t m) (l .cards) (l .shops) 0 n ≡ Fine
+        rows-fine : rowsFrom firstTerms (claims t m) (l .cards) (l .shops) 0 n ≡ Fine
         rows-fine =
-            records-pass (length (claims t m)) 0 claimWidth (λ c. claimFault (claimOf t m c) (l .cards) (l .shops)) n
+            records-pass (length (claims t m)) 0 claimWidth (λ c. claimFault firstTerms (claimOf t m c) (l .cards) (l .shops)) n
             (λ c h. omega (arith, long, length-drop (l .«row_at») t))
-            (λ c h. claim-passes (claimOf t m c) (l .cards) (l .shops) (cards c h) (shops c h) (kinds c h)) n 0 (omega arith)
+            (λ c h. claim-passes firstTerms (claimOf t m c) (l .cards) (l .shops) (cards c h) (shops c h) (omega (arith, kinds c h))) n 0
+            (omega arith)
 
-        claim-section : claimsAt t after (l .cards) (l .shops) ≡ Read n (after + 2) (after + 2 + claimWidth * n)
+        claim-section : claimsAt firstTerms t after (l .cards) (l .shops) ≡ Read n (after + 2) (after + 2 + claimWidth * n)
         unfolding claimsAt
         claim-section =
             section-passes t after maxRows ClaimCount claimWidth _ n (after + 2) (after + 2 + claimWidth * n)
             (omega (arith, long, first-row)) count-here few
-            (ap₂ (λ (a k : ℕ). rowsFrom (drop a t) (l .cards) (l .shops) 0 k) first-row count-here ∙ rows-fine) refl refl
+            (ap₂ (λ (a k : ℕ). rowsFrom firstTerms (drop a t) (l .cards) (l .shops) 0 k) first-row count-here ∙ rows-fine) refl refl
 
         pub claims-accepted : reading f t ≡ Accepted m
         claims-accepted =
-            accepted f t (l .cards) (0 + 2) next card-section (l .shops) (next + 2) after shop-section n (after + 2)
+            accepted firstTerms f t (l .cards) (0 + 2) next card-section (l .shops) (next + 2) after shop-section n (after + 2)
             (after + 2 + claimWidth * n) claim-section (omega (arith, long, first-row))
             ∙ layout-same l n (f .week) (l .week) (f .day) (l .day) _ _ _ _ _ _ (sym (accepted-week f s l is))
             (sym (accepted-day f s l is)) (sym (sound .card-place)) (omega (arith, places)) first-row

@@ -15,3 +15,4 @@ pub mod ClaimsLaws
 pub mod WeekLaws
 pub mod AlikeLaws
 pub mod WidenedLaws
+pub mod TermsLaws

@@ -19,8 +19,9 @@ use lib.Seq.{getD-drop, drop-drop, ext-getD}
 use lib.Dec.{ltb}
 use borrow.Author.Tests.{lt-ltb, le-ltb}
 use Rattle.theory.specs.Bounds.{maxRows}
-use Rattle.claimfile.specs.File.{columnOf, groupWidth, claimWidth, word, limitAt, recordAt, claimAt, orElse, rowsFrom}
-use Rattle.claimfile.specs.File.{countFault, sectionOf, sectionAt, claimsAt, afterCards, afterShops, afterClaims, reading}
+use Rattle.claimfile.specs.File.{firstTerms, columnOf, groupWidth, claimWidth, word, limitAt, recordAt, claimAt, orElse, rowsFrom}
+use Rattle.claimfile.specs.File.{countFault, sectionOf, sectionAt, claimsAt, afterCards, afterShops, afterClaims}
+use Rattle.claimfile.specs.File.{readingIn, reading}
 use Rattle.claimfile.specs.Sections.{behind, placeOn}
 use Rattle.claimfile.specs.Day.{claimOf}
 use Rattle.claimfile.specs.Sound.{Sound}
@@ -48,7 +49,7 @@ use Rattle.claimfile.proofs.AlikeLaws.{section-whole, section-alike, Fo
 
 -- the first fault of the claims section whose count stands at a place
 abbrev claimsChecked : List ℕ → ℕ → ℕ → ℕ → Checked
-claimsChecked s a cards shops = orElse (countFault s a maxRows ClaimCount) (rowsFrom (drop (a + 2) s) cards shops 0 (word s a))
+claimsChecked s a cards shops = orElse (countFault s a maxRows ClaimCount) (rowsFrom firstTerms (drop (a + 2) s) cards shops 0 (word s a))
 
 module _ (s : List ℕ) (a : ℕ) (t : List ℕ) (b : ℕ) (follows : Follows (λ r. r) s a t b) where
   same : drop a s ≡ drop b t
@@ -58,14 +59,14 @@ module _ (s : List ℕ) (a : ℕ) (t : List ℕ) (b : ℕ) (follows : Follows (�
   left-alike = sym (length-drop a s) ∙ ap length same ∙ length-drop b t
 
   claims-alike :
-      (cards shops : ℕ) → claimsAt t b cards shops ≡ sectionOf (claimsChecked s a cards shops) (word s a) (b + 2) claimWidth
+      (cards shops : ℕ) → claimsAt firstTerms t b cards shops ≡ sectionOf (claimsChecked s a cards shops) (word s a) (b + 2) claimWidth
   unfolding claimsAt
   claims-alike cards shops =
       section-alike s a t b maxRows ClaimCount claimWidth _ _
       (cut-part s a (follows .inside) 2 (a + 2) refl
       ∙ ap (λ (r : List ℕ). ltb (length r) 2) same
       ∙ sym (cut-part t b (follows .room) 2 (b + 2) refl))
-      (λ whole. (count, ap₂ (λ r n. rowsFrom r cards shops 0 n) rest count))
+      (λ whole. (count, ap₂ (λ r n. rowsFrom firstTerms r cards shops 0 n) rest count))
     where
       count : word s a ≡ word t b
       count = word-part s a 0 a (omega arith) ∙ ap (λ (r : List ℕ). word r 0) same ∙ sym (word-part t b 0 b (omega arith))
@@ -86,8 +87,8 @@ module _ (stored : Bool) (day : ℕ) (s t : List ℕ) where
   after-claims :
       (cards shops cardAt shopAt shopAt′ a b : ℕ) → Follows (λ r. r) s a t b → shopAt′ ≡ 4 + 16 * cards →
       b ≡ 4 + 16 * (cards + shops) →
-      afterClaims new t cards shops 2 shopAt′ (claimsAt t b cards shops)
-      ≡ widenedBy (afterClaims old s cards shops cardAt shopAt (claimsAt s a cards shops))
+      afterClaims new t cards shops 2 shopAt′ (claimsAt firstTerms t b cards shops)
+      ≡ widenedBy (afterClaims old s cards shops cardAt shopAt (claimsAt firstTerms s a cards shops))
   unfolding claimsAt
   after-claims cards shops cardAt shopAt shopAt′ a b follows shops-place place =
       ap (afterClaims new t cards shops 2 shopAt′) (claims-alike s a t b follows cards shops)
@@ -128,18 +129,18 @@ module _ (stored : Bool) (day : ℕ) (s t : List ℕ) where
 
   after-shops :
       (cards cardAt a b : ℕ) → Follows (widenSection (λ r. r)) s a t b → b ≡ 2 + 16 * cards →
-      afterShops new t cards 2 (sectionAt new t b) ≡ widenedBy (afterShops old s cards cardAt (sectionAt old s a))
+      afterShops firstTerms new t cards 2 (sectionAt new t b) ≡ widenedBy (afterShops firstTerms old s cards cardAt (sectionAt old s a))
   unfolding sectionAt
   after-shops cards cardAt a b follows place =
-      ap (afterShops new t cards 2) (groups-alike stored day (λ r. r) s a t b follows) ∙ told (groupsChecked old s a) refl
+      ap (afterShops firstTerms new t cards 2) (groups-alike stored day (λ r. r) s a t b follows) ∙ told (groupsChecked old s a) refl
     where
       shops : ℕ
       shops = word s a
 
       told :
           (x : Checked) → groupsChecked old s a ≡ x →
-          afterShops new t cards 2 (sectionOf x shops (b + 2) 16)
-          ≡ widenedBy (afterShops old s cards cardAt (sectionOf x shops (a + 2) 4))
+          afterShops firstTerms new t cards 2 (sectionOf x shops (b + 2) 16)
+          ≡ widenedBy (afterShops firstTerms old s cards cardAt (sectionOf x shops (a + 2) 4))
       told (Fault why) e = refl
       told Fine e =
           after-claims cards shops cardAt (a + 2) (b + 2) (a + 2 + 4 * shops) (b + 2 + 16 * shops)
@@ -147,17 +148,18 @@ module _ (stored : Bool) (day : ℕ) (s t : List ℕ) where
 
   after-cards :
       Follows (widenSection (widenSection (λ r. r))) s 0 t 0 →
-      afterCards new t (sectionAt new t 0) ≡ widenedBy (afterCards old s (sectionAt old s 0))
+      afterCards firstTerms new t (sectionAt new t 0) ≡ widenedBy (afterCards firstTerms old s (sectionAt old s 0))
   unfolding sectionAt
   after-cards follows =
-      ap (afterCards new t) (groups-alike stored day (widenSection (λ r. r)) s 0 t 0 follows) ∙ told (groupsChecked old s 0) refl
+      ap (afterCards firstTerms new t) (groups-alike stored day (widenSection (λ r. r)) s 0 t 0 follows)
+      ∙ told (groupsChecked old s 0) refl
     where
       cards : ℕ
       cards = word s 0
 
       told :
           (x : Checked) → groupsChecked old s 0 ≡ x →
-          afterCards new t (sectionOf x cards 2 16) ≡ widenedBy (afterCards old s (sectionOf x cards 2 4))
+          afterCards firstTerms new t (sectionOf x cards 2 16) ≡ widenedBy (afterCards firstTerms old s (sectionOf x cards 2 4))
       told (Fault why) e = refl
       told Fine e =
           after-shops cards 2 (2 + 4 * cards) (2 + 16 * cards)
@@ -165,7 +167,7 @@ module _ (stored : Bool) (day : ℕ) (s t : List ℕ) where
 
 -- "Old-layout files, new or stored, .. act as ones with the same limit on seven days", of any list of numbers
 pub widened-reading : (f : Form) (s : List ℕ) → f .week ≡ false → reading (weekForm f) (widened s) ≡ widenedBy (reading f s)
-unfolding reading widened
+unfolding readingIn widened
 widened-reading f s old =
     after-cards (f .stored) (f .day) s (widened s) (record { part = refl; inside = zero-le; room = zero-le })
     ∙ ap (λ w. widenedBy (reading (record { week = w; stored = f .stored; day = f .day }) s)) (sym old)

@@ -1,6 +1,6 @@
 -- Laws of a written file: it is accepted, its records read back, and it holds nothing else.
 --   word-back group-back claim-back    a number or a record that stands at a place is read there
---   section-passes group-passes claim-passes   a section, a group and a claim without a fault
+--   section-passes group-passes     a section and a group without a fault
 --   written-length                     how long the file is
 --   written-count written-place        the count and the records of a side stand at their places
 --   written-row-count written-row      so do the count and the records of the claims
@@ -17,10 +17,9 @@ use Prim.Native.Nat.{ℕ, zero, suc, _+_, _*_, _≤_, _<_}
 use native.Mathlib.Decide.{decLt}
 use native.Mathlib.Omega.{arith}
 use lib.ListN.{length, getD, take, drop, length-append, length-drop}
-use borrow.Author.Tests.{le-ltb, lt-leb}
 use Rattle.theory.specs.Bounds.{maxGroups, maxRows}
 use Rattle.claimfile.specs.File.{storedWeek, days, columns, columnOf, groupWidth, claimWidth}
-use Rattle.claimfile.specs.File.{word, limitAt, recordAt, groupAt, claimAt, noneAbove, groupFault, claimFault}
+use Rattle.claimfile.specs.File.{firstTerms, word, limitAt, recordAt, groupAt, claimAt, noneAbove, groupFault, claimFault}
 use Rattle.claimfile.specs.File.{sectionBy, sectionAt, claimsAt, reading}
 use Rattle.claimfile.specs.Day.{startOf, groupOf, onDay, claims, claimOf}
 use Rattle.claimfile.specs.Sound.{SmallerOrTop, Sound}
@@ -39,7 +38,7 @@ use Rattle.claimfile.specs.declared.Group.{Group}
 use Rattle.claimfile.specs.declared.Claim.{Claim}
 use Rattle.theory.proofs.TestLaws.{either}
 use Rattle.claimfile.proofs.FileLaws.{above-none, group-top, group-stored, group-new}
-use Rattle.claimfile.proofs.FileLaws.{records-pass, count-fits, section-fits, accepted}
+use Rattle.claimfile.proofs.FileLaws.{claim-passes, records-pass, count-fits, section-fits, accepted}
 use Rattle.claimfile.proofs.AcceptedLaws.{one-layout, accepted-sound}
 use Rattle.claimfile.proofs.PutLaws.{same-cell, holds-self, holds-take, holds-drop}
 use Rattle.claimfile.proofs.PutLaws.{holds-first, holds-second, holds-append}
@@ -148,12 +147,6 @@ group-passes f s start own parent limits =
             | inr is ↦ group-top f s start own (omega arith) is
           ]
     ]
-
-pub claim-passes :
-    (claim : Claim) (cards shops : ℕ) → claim .card < cards → claim .shop < shops → claim .kind ≤ 1 →
-    claimFault claim cards shops ≡ Fine
-unfolding claimFault
-claim-passes claim cards shops card shop kind = rw (lt-leb _ _ card, lt-leb _ _ shop, le-ltb _ _ kind)
 
 --------------------------------------------------------------------------------
 -- The parts of the file
@@ -345,19 +338,19 @@ module _ (d : Contents) where
           (λ g h. omega (arith, within side)) (group-fits side) (recordsOn d side) 0 (omega arith)))
           (start-behind side) after
 
-    rows-read : claimsAt s (rowCountPlace l) (d .cards) (d .shops) ≡ Read (d .rows) (l .«row_at») (lengthOf d)
+    rows-read : claimsAt firstTerms s (rowCountPlace l) (d .cards) (d .shops) ≡ Read (d .rows) (l .«row_at») (lengthOf d)
     unfolding claimsAt
     rows-read =
         let count = word-back s (rowCountPlace l) (d .rows) written-row-count in
         section-passes s (rowCountPlace l) maxRows ClaimCount claimWidth _ (d .rows) (l .«row_at») (lengthOf d)
         (omega (arith, written-length)) count (ranged .rows-most)
         (rw (← rows-behind, count)
-        (records-pass (length (claims s l)) 0 claimWidth (λ c. claimFault (claimOf s l c) (d .cards) (d .shops)) (d .rows)
+        (records-pass (length (claims s l)) 0 claimWidth (λ c. claimFault firstTerms (claimOf s l c) (d .cards) (d .shops)) (d .rows)
         (λ c h. omega (arith, written-length, length-drop (l .«row_at») s))
         (λ c h.
-        ap (λ (x : Claim). claimFault x (d .cards) (d .shops)) (written-claim c h)
-        ∙ claim-passes (d .claim c) (d .cards) (d .shops) (ranged .claim-cards c h) (ranged .claim-shops c h)
-        (ranged .claim-kinds c h))
+        ap (λ (x : Claim). claimFault firstTerms x (d .cards) (d .shops)) (written-claim c h)
+        ∙ claim-passes firstTerms (d .claim c) (d .cards) (d .shops) (ranged .claim-cards c h) (ranged .claim-shops c h)
+        (omega (arith, ranged .claim-kinds c h)))
         (d .rows) 0 (omega arith)))
         rows-behind (omega arith)
 
@@ -366,7 +359,7 @@ module _ (d : Contents) where
         (stored : Bool) (day : ℕ) → (stored ≡ false → Proper d) →
         reading (record { week = true; stored = stored; day = day }) (fileBytes d) ≡ Accepted (onDay (layoutOf d) day)
     written-accepted stored day judged =
-        accepted (record { week = true; stored = stored; day = day }) s (d .cards) 2 (countPlace l 1)
+        accepted firstTerms (record { week = true; stored = stored; day = day }) s (d .cards) 2 (countPlace l 1)
         (groups-read stored day judged 0 (countPlace l 1) (omega arith)) (d .shops) (startOf l 1) (rowCountPlace l)
         (groups-read stored day judged 1 (rowCountPlace l) (omega arith)) (d .rows) (l .«row_at») (lengthOf d) rows-read
         (omega (arith, written-length))

@@ -19,7 +19,8 @@
 --   noneAbove s own parent n   whether none of the n limits of the record at `own` is above that of the record at `parent`
 --   limitsFault f s own parent     the fault of a record's limits by its parent's record: none is judged in a stored file
 --   groupFault f s start own   the first fault of the fields of group `own` of the section whose records start there
---   claimFault claim cards shops   the first fault of a claim's fields
+--   firstTerms, secondTerms    how many kinds the claims have under the first terms and under the second
+--   claimFault K claim cards shops     the first fault of a claim's fields, where there are K kinds
 --   recordsFrom size start width fault k left   the first fault of the records that are left from record k on, where the first
 --                          record starts at `start` of `size` bytes, each has `width` of them, and `fault` is that of its fields
 --   groupsFrom, rowsFrom   the same for group records and for claim records
@@ -29,7 +30,9 @@
 --   sectionAt, claimsAt    the group section and the claims section whose count stands at a place
 --   refusedBy section      the reading of a file with a faulty section
 --   afterCards, afterShops, afterClaims     the reading of a file, by the section that was read last
---   reading f s            the file: accepted with its layout, or refused by the first fault met
+--   readingIn K f s        the file with K kinds: accepted with its layout, or refused by the first fault met
+--   reading f s            the same under the first terms
+--   readingKinds d s       the same under the second terms: a new file in the week layout, for day d
 -- "The file is read from the front and the first fault met is the one told. A count is judged before its records, a record must
 -- be whole before its fields are judged, and fields are judged in order (card group, shop group, kind)."
 -- Document 02, E4: "11, a group's limit is above its parent's, judged on the same record after 3, and not by the calls for stored
@@ -72,6 +75,14 @@ asStored f = record { week = f .week; stored = true; day = f .day }
 
 abbrev pub forDay : Form → ℕ → Form
 forDay f d = record { week = f .week; stored = f .stored; day = d }
+
+-- "Kind 0 is ordinary, 1 is earned."
+abbrev pub firstTerms : ℕ
+firstTerms = 2
+
+-- Document 02, E12: "Bakeries that sign the new terms have four kinds, 0 to 3"
+abbrev pub secondTerms : ℕ
+secondTerms = 4
 
 abbrev pub top : ℕ
 top = maxLimit
@@ -141,12 +152,13 @@ groupFault f s start own =
     let parent = word s (at own) in
     orElse (parentFault own parent) (pick (ltb parent own) (limitsFault f s (at own) (at parent)) Fine)
 
--- refusals 5 and 6: the fields of one claim in order
-unfoldable pub claimFault : Claim → ℕ → ℕ → Checked
-claimFault claim cards shops =
+-- refusals 5 and 6: the fields of one claim in order. Refusal 6 is "a kind is neither 0 nor 1" where there are two kinds, and "a kind
+-- over 3" where there are four
+unfoldable pub claimFault : ℕ → Claim → ℕ → ℕ → Checked
+claimFault K claim cards shops =
     pick (leb cards (claim .card))
     (Fault NoSuchGroup)
-    (pick (leb shops (claim .shop)) (Fault NoSuchGroup) (pick (ltb 1 (claim .kind)) (Fault Kind) Fine))
+    (pick (leb shops (claim .shop)) (Fault NoSuchGroup) (pick (leb K (claim .kind)) (Fault Kind) Fine))
 
 -- refusal 1 of the next record, then its fields, then the records behind it
 unfoldable pub recordsFrom : ℕ → ℕ → ℕ → (ℕ → Checked) → ℕ → ℕ → Checked
@@ -159,8 +171,8 @@ recordsFrom size start width fault k (suc left) =
 abbrev pub groupsFrom : Form → List ℕ → ℕ → ℕ → ℕ → Checked
 groupsFrom f s start = recordsFrom (length s) start (groupWidth (f .week)) (groupFault f s start)
 
-abbrev pub rowsFrom : List ℕ → ℕ → ℕ → ℕ → ℕ → Checked
-rowsFrom r cards shops = recordsFrom (length r) 0 claimWidth (λ c. claimFault (claimAt r c) cards shops)
+abbrev pub rowsFrom : ℕ → List ℕ → ℕ → ℕ → ℕ → ℕ → Checked
+rowsFrom K r cards shops = recordsFrom (length r) 0 claimWidth (λ c. claimFault K (claimAt r c) cards shops)
 
 --------------------------------------------------------------------------------
 -- The sections
@@ -182,9 +194,9 @@ unfoldable pub sectionAt : Form → List ℕ → ℕ → Section
 sectionAt f s at = sectionBy s at maxGroups GroupCount (groupWidth (f .week)) (groupsFrom f s (at + 2) 0 (word s at))
 
 -- the records are "the part of the file that starts at its first record"
-unfoldable pub claimsAt : List ℕ → ℕ → ℕ → ℕ → Section
-claimsAt s at cards shops =
-    sectionBy s at maxRows ClaimCount claimWidth (rowsFrom (drop (at + 2) s) cards shops 0 (word s at))
+unfoldable pub claimsAt : ℕ → List ℕ → ℕ → ℕ → ℕ → Section
+claimsAt K s at cards shops =
+    sectionBy s at maxRows ClaimCount claimWidth (rowsFrom K (drop (at + 2) s) cards shops 0 (word s at))
 
 --------------------------------------------------------------------------------
 -- The file
@@ -211,13 +223,20 @@ afterClaims f s cards shops cardAt shopAt (Read rows rowAt end) =
     }))
 afterClaims f s cards shops cardAt shopAt (Faulty why) = Refused why
 
-abbrev pub afterShops : Form → List ℕ → ℕ → ℕ → Section → Reading
-afterShops f s cards cardAt (Read shops shopAt next) = afterClaims f s cards shops cardAt shopAt (claimsAt s next cards shops)
-afterShops f s cards cardAt (Faulty why) = Refused why
+abbrev pub afterShops : ℕ → Form → List ℕ → ℕ → ℕ → Section → Reading
+afterShops K f s cards cardAt (Read shops shopAt next) = afterClaims f s cards shops cardAt shopAt (claimsAt K s next cards shops)
+afterShops K f s cards cardAt (Faulty why) = Refused why
 
-abbrev pub afterCards : Form → List ℕ → Section → Reading
-afterCards f s (Read cards cardAt next) = afterShops f s cards cardAt (sectionAt f s next)
-afterCards f s (Faulty why) = Refused why
+abbrev pub afterCards : ℕ → Form → List ℕ → Section → Reading
+afterCards K f s (Read cards cardAt next) = afterShops K f s cards cardAt (sectionAt f s next)
+afterCards K f s (Faulty why) = Refused why
 
-unfoldable pub reading : Form → List ℕ → Reading
-reading f s = afterCards f s (sectionAt f s 0)
+unfoldable pub readingIn : ℕ → Form → List ℕ → Reading
+readingIn K f s = afterCards K f s (sectionAt f s 0)
+
+abbrev pub reading : Form → List ℕ → Reading
+reading f s = readingIn firstTerms f s
+
+-- "four kinds, 0 to 3, in new files of the week layout only"
+abbrev pub readingKinds : ℕ → List ℕ → Reading
+readingKinds d s = readingIn secondTerms (newWeek d) s

@@ -1,6 +1,8 @@
--- What holds of every accepted file of any sort (`accepted-sound`), and what the functions on an accepted file ask.
+-- What holds of every accepted file of any sort and under either terms (`accepted-sound`), and what the functions on an accepted file
+-- ask.
 --   SmallerOrTop own parent    a group with its own number may have that parent
---   Sound s l              the file s has the layout l, its sizes are within bounds, and every field is in range
+--   Sound s l              the file s has the layout l, its sizes are within bounds, and every field but the kinds is in range
+--   Kinds K s l            its claims are of K kinds (`accepted-kinds`): 0 to K - 1
 --   NoneAbove s l          what holds of every new file besides (`new-below`): on no day a group's limit is above its parent's
 use Prim.Native.Nat.{ℕ, _+_, _*_, _<_, _≤_}
 use mathlib.Core.Path.{_≡_}
@@ -27,7 +29,9 @@ pub record Sound (s : List ℕ) (l : Layout) : Type 0 where
   pub parents : (side g : ℕ) → g < countOf l side → SmallerOrTop g (groupOf s l side g .parent)
   pub row-cards : (c : ℕ) → c < l .rows → namedCard s l c < l .cards
   pub row-shops : (c : ℕ) → c < l .rows → namedShop s l c < l .shops
-  pub row-kinds : (c : ℕ) → c < l .rows → kindOf s l c ≤ 1
+
+abbrev pub Kinds : ℕ → List ℕ → Layout → Type 0
+Kinds K s l = (c : ℕ) → c < l .rows → kindOf s l c < K
 
 abbrev pub NoneAbove : List ℕ → Layout → Type 0
 NoneAbove s l =

@@ -18,13 +18,13 @@ use Rattle.theory.specs.Network.{Instance, onSide, FitsSide, Independent}
 use Rattle.theory.proofs.SumLaws.{sum-bound}
 use Rattle.theory.proofs.TestLaws.{either, fits-true, true-fits}
 use Rattle.theory.proofs.RankLaws.{rank-unique, fits-rank}
-use Rattle.claimfile.specs.File.{reading}
+use Rattle.claimfile.specs.File.{readingIn}
 use Rattle.claimfile.specs.Day.{instanceOf}
 use Rattle.claimfile.specs.declared.Form.{Form}
 use Rattle.claimfile.specs.declared.Layout.{Layout}
 use Rattle.claimfile.specs.declared.Reading.{Reading}
 use Rattle.claimfile.specs.declared.Reading.the-variants as reading-is
-use Rattle.claimfile.proofs.AcceptedLaws.{accepted-sound}
+use Rattle.claimfile.proofs.AcceptedLaws.{accords-in}
 use Rattle.refusal.specs.declared.Reason.{Reason}
 use Rattle.refusal.specs.declared.Reason.the-variants.{File, Value}
 use Rattle.refusal.proofs.TableLaws.{number-some}
@@ -33,8 +33,8 @@ use Rattle.limits.specs.declared.Entry.the-variants.{Entered, Turned}
 use Rattle.limits.specs.declared.Ranked.{Ranked}
 use Rattle.limits.specs.declared.Ranked.the-variants as ranked-is
 use Rattle.limits.specs.declared.Found.{Found}
-use Rattle.limits.specs.Answers.{fitsOf, foundOn, bit, Told, Finds, entered}
-use Rattle.limits.specs.Answers.{rankedBy, ranked, rankedNumbers, Answered}
+use Rattle.limits.specs.Answers.{fitsOf, foundOn, bit, Told, Finds, enteredIn}
+use Rattle.limits.specs.Answers.{rankedBy, rankedIn, rankedNumbers, AnsweredIn}
 use Rattle.limits.specs.Ready.{Ready}
 use Rattle.limits.specs.Side.{FitsIn, Placed}
 use Rattle.limits.proofs.SideLaws.{sound-matroid, side-fits, fits-side, side-rank}
@@ -115,9 +115,9 @@ module _ (s sel : List ℕ) (l : Layout) (ready : Ready s sel l) (side : ℕ) wh
 -- Fits and rank
 
 module _ (s sel : List ℕ) (side : ℕ) where
-  ranked-by : (f : Form) (x : Entry) → entered f s sel ≡ x → ranked f s sel side ≡ rankedBy s sel side x
-  unfolding ranked
-  ranked-by f x e = ap (rankedBy s sel side) e
+  ranked-by : (K : ℕ) (f : Form) (x : Entry) → enteredIn K f s sel ≡ x → rankedIn K f s sel side ≡ rankedBy s sel side x
+  unfolding rankedIn
+  ranked-by K f x e = ap (rankedBy s sel side) e
 
   module _ (l : Layout) where
     pub ranked-value : 1 < side → ranked-is.Refused Value ≡ rankedBy s sel side (Entered l)
@@ -135,13 +135,13 @@ rank-rows :
     (N : ℕ) (Fit : (ℕ → ℕ) → Type 0) (X : ℕ → ℕ) (n : ℕ) → Rank N (λ Y. Selection N Y × Fit Y) X n → n ≤ N
 rank-rows N Fit X n k = omega (arith, k .is, sum-bound N 1 (k .ind .0))
 
-module _ (f : Form) (s sel : List ℕ) (side : ℕ) (r : Ranked) (is : r ≡ ranked f s sel side) where
+module _ (K : ℕ) (f : Form) (s sel : List ℕ) (side : ℕ) (r : Ranked) (is : r ≡ rankedIn K f s sel side) where
   -- a refusal's number is not 0
   not-refused : {A : Type 0} (why : Reason) → rankedNumbers r .number ≡ 0 → r ≡ ranked-is.Refused why → A
   not-refused why none e = absurd (omega (arith, number-some why, ap (λ x. rankedNumbers x .number) e))
 
   means-entered :
-      (l : Layout) → rankedNumbers r .number ≡ 0 → entered f s sel ≡ Entered l → Ready s sel l →
+      (l : Layout) → rankedNumbers r .number ≡ 0 → enteredIn K f s sel ≡ Entered l → Ready s sel l →
       Told (instanceOf s l) sel side (rankedNumbers r .fits) (rankedNumbers r .rank)
   means-entered l none e ready =
       elim (decLt 1 side) [
@@ -153,22 +153,22 @@ module _ (f : Form) (s sel : List ℕ) (side : ℕ) (r : Ranked) (is : r ≡ ran
       ]
     where
       by : r ≡ rankedBy s sel side (Entered l)
-      by = is ∙ ranked-by s sel side f (Entered l) e
+      by = is ∙ ranked-by s sel side K f (Entered l) e
 
   means :
-      (l : Layout) → reading f s ≡ reading-is.Accepted l → rankedNumbers r .number ≡ 0 →
+      (l : Layout) → readingIn K f s ≡ reading-is.Accepted l → rankedNumbers r .number ≡ 0 →
       Told (instanceOf s l) sel side (rankedNumbers r .fits) (rankedNumbers r .rank)
   means l e none =
-      elim (entering f s sel l e) [
-        | inl q ↦ not-refused (q .0) none (is ∙ ranked-by s sel side f (Turned (q .0)) (q .1))
+      elim (entering K f s sel l e) [
+        | inl q ↦ not-refused (q .0) none (is ∙ ranked-by s sel side K f (Turned (q .0)) (q .1))
         | inr q ↦ means-entered l none (q .0) (q .1)
       ]
 
-  told-most : (x : Ranked) → r ≡ x → (y : Reading) → reading f s ≡ y → rankedNumbers x .rank ≤ maxRows
+  told-most : (x : Ranked) → r ≡ x → (y : Reading) → readingIn K f s ≡ y → rankedNumbers x .rank ≤ maxRows
   told-most (ranked-is.Refused why) e y h = zero-le
   told-most (ranked-is.Told b n) e (reading-is.Refused why) h =
       not-refused (File why) (ap (λ x. rankedNumbers x .number) e)
-      (is ∙ ranked-by s sel side f (Turned (File why)) (entered-by f s sel (reading-is.Refused why) h))
+      (is ∙ ranked-by s sel side K f (Turned (File why)) (entered-by K f s sel (reading-is.Refused why) h))
   told-most (ranked-is.Told b n) e (reading-is.Accepted l) h =
       let d = instanceOf s l in
       omega (
@@ -176,15 +176,16 @@ module _ (f : Form) (s sel : List ℕ) (side : ℕ) (r : Ranked) (is : r ≡ ran
         rank-rows (l .rows) (FitsSide (d .net) (d .limit) side) (row sel) _
             (means l h (ap (λ x. rankedNumbers x .number) e) .rank),
         ap (λ x. rankedNumbers x .rank) e,
-        accepted-sound f s l h .rows-most,
+        accords-in K f s l h .sound .rows-most,
       )
 
-  answered : Answered f s sel side r
+  answered : AnsweredIn K f s sel side r
   answered =
-      record { is = is; numbers = ap rankedNumbers is; most = told-most r refl (reading f s) refl; means = means }
+      record { is = is; numbers = ap rankedNumbers is; most = told-most r refl (readingIn K f s) refl; means = means }
 
 -- the same of what the call answers: y is the entry that was found, x what it is
 pub answered-by :
-    (f : Form) (s sel : List ℕ) (side : ℕ) (r : Ranked) (y x : Entry) → y ≡ entered f s sel → y ≡ x → r ≡ rankedBy s sel side x →
-    Answered f s sel side r
-answered-by f s sel side r y x e q is = answered f s sel side r (is ∙ sym (ranked-by s sel side f x (sym e ∙ q)))
+    (K : ℕ) (f : Form) (s sel : List ℕ) (side : ℕ) (r : Ranked) (y x : Entry) → y ≡ enteredIn K f s sel → y ≡ x →
+    r ≡ rankedBy s sel side x →
+    AnsweredIn K f s sel side r
+answered-by K f s sel side r y x e q is = answered K f s sel side r (is ∙ sym (ranked-by s sel side K f x (sym e ∙ q)))

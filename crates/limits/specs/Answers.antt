@@ -9,15 +9,19 @@
 --   SparesOn i sel x n     n is how many further claims like row x would fit beside the selection, and what that means
 -- Of a file, in the form f:
 --   bits n sel             whether each of the first n bytes of a selection is 0 or 1
---   enteredBy sel reading, entered f s sel  a file with a selection: turned away with the file's refusal, then 8, then 12, then 9, else
---                          the file's layout
---   rankedBy s sel side entry, ranked f s sel side   the answer of fits and rank
+--   enteredBy sel reading, enteredIn K f s sel  a file with K kinds and a selection: turned away with the file's refusal, then 8, then
+--                          12, then 9, else the file's layout
+--   entered f s sel        the same under the first terms
+--   rankedBy s sel side entry, rankedIn K f s sel side   the answer of fits and rank
+--   ranked f s sel side    the same under the first terms
 --   spareBy s sel x entry, spare f s sel x           the answer of spare places
 --   RankedNumbers, SpareNumbers          document 01's number and values of an answer
 --   rankedNumbers r, spareNumbers r      these for each case of an answer: the refusal's number and zeros, or 0 with yes (1) or no (0)
 --                          and the rank, or 0 with the number of places
---   Answered f s sel side r    r is the answer of fits and rank, in document 01's number and values too; the rank is at most 512. Where no
---                          refusal is told of an accepted file, the values mean what `Told` says of the day that it holds
+--   AnsweredIn K f s sel side r    r is the answer of fits and rank, in document 01's number and values too; the rank is at most 512.
+--                          Where no refusal is told of an accepted file, the values mean what `Told` says of the day that it holds
+--   Answered f s sel side r    the same under the first terms
+--   AnsweredKinds d s sel side r   the same under the second terms: a new file in the week layout, for day d
 --   Spared f s sel x r     the same of spare places: at most 65535, the row is not in the selection, and the number means what
 --                          `Spares` says
 -- "Then 7, 8, 9": 8 for a selection that is shorter than needed; 9 for a selection byte over 1, a side over 1, a row not below N. Then 10,
@@ -36,7 +40,7 @@ use Rattle.theory.specs.Matroid.{Matroid, Rank, row}
 use Rattle.theory.specs.Search.{rank}
 use Rattle.theory.specs.Network.{Instance, onSide, Independent}
 use Rattle.theory.specs.Spare.{sparePlaces, Spares}
-use Rattle.claimfile.specs.File.{days, reading}
+use Rattle.claimfile.specs.File.{firstTerms, secondTerms, newWeek, days, readingIn, reading}
 use Rattle.claimfile.specs.Day.{limitOf, networkOf, instanceOf}
 use Rattle.claimfile.specs.declared.Form.{Form}
 use Rattle.claimfile.specs.declared.Layout.{Layout}
@@ -90,8 +94,11 @@ enteredBy sel (reading-is.Accepted l) =
     (Turned Short)
     (pick (leb days (l .day)) (Turned Day) (pick (bits (l .rows) sel) (Entered l) (Turned Value)))
 
-unfoldable pub entered : Form → List ℕ → List ℕ → Entry
-entered f s sel = enteredBy sel (reading f s)
+unfoldable pub enteredIn : ℕ → Form → List ℕ → List ℕ → Entry
+enteredIn K f s sel = enteredBy sel (readingIn K f s)
+
+abbrev pub entered : Form → List ℕ → List ℕ → Entry
+entered f s sel = enteredIn firstTerms f s sel
 
 --------------------------------------------------------------------------------
 -- The answers
@@ -103,8 +110,11 @@ rankedBy s sel side (Entered l) =
     (ranked-is.Refused Value)
     (ranked-is.Told (foundOn (instanceOf s l) sel side .fits) (foundOn (instanceOf s l) sel side .rank))
 
-unfoldable pub ranked : Form → List ℕ → List ℕ → ℕ → Ranked
-ranked f s sel side = rankedBy s sel side (entered f s sel)
+unfoldable pub rankedIn : ℕ → Form → List ℕ → List ℕ → ℕ → Ranked
+rankedIn K f s sel side = rankedBy s sel side (enteredIn K f s sel)
+
+abbrev pub ranked : Form → List ℕ → List ℕ → ℕ → Ranked
+ranked f s sel side = rankedIn firstTerms f s sel side
 
 abbrev pub spareBy : List ℕ → List ℕ → ℕ → Entry → Spare
 spareBy s sel x (Turned why) = spare-is.Refused why
@@ -135,13 +145,19 @@ abbrev pub spareNumbers : Spare → SpareNumbers
 spareNumbers (spare-is.Places n) = record { number = 0; places = n }
 spareNumbers (spare-is.Refused why) = record { number = numberOf why; places = 0 }
 
-pub record Answered (f : Form) (s sel : List ℕ) (side : ℕ) (r : Ranked) : Type 0 where
-  pub is : r ≡ ranked f s sel side
-  pub numbers : rankedNumbers r ≡ rankedNumbers (ranked f s sel side)
+pub record AnsweredIn (K : ℕ) (f : Form) (s sel : List ℕ) (side : ℕ) (r : Ranked) : Type 0 where
+  pub is : r ≡ rankedIn K f s sel side
+  pub numbers : rankedNumbers r ≡ rankedNumbers (rankedIn K f s sel side)
   pub most : rankedNumbers r .rank ≤ maxRows
   pub means :
-      (l : Layout) → reading f s ≡ reading-is.Accepted l → rankedNumbers r .number ≡ 0 →
+      (l : Layout) → readingIn K f s ≡ reading-is.Accepted l → rankedNumbers r .number ≡ 0 →
       Told (instanceOf s l) sel side (rankedNumbers r .fits) (rankedNumbers r .rank)
+
+abbrev pub Answered : Form → List ℕ → List ℕ → ℕ → Ranked → Type 0
+Answered f s sel side r = AnsweredIn firstTerms f s sel side r
+
+abbrev pub AnsweredKinds : ℕ → List ℕ → List ℕ → ℕ → Ranked → Type 0
+AnsweredKinds d s sel side r = AnsweredIn secondTerms (newWeek d) s sel side r
 
 pub record Spared (f : Form) (s sel : List ℕ) (x : ℕ) (r : Spare) : Type 0 where
   pub is : r ≡ spare f s sel x

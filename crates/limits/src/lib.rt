@@ -1,10 +1,10 @@
 // Which lists of rows fit the limits of a side, what their ranks are, and how many claims more would fit.
 //
 // A selection is one byte a row, 1 where the row is in it; bytes past the last row are not read.
-// Each selected row is counted at the group that it names; an earned row, on the card side, above that group. Then the rows rise, from
-// the last group to the first: a group passes on to its parent as many as came to it, but no more than its limit. Since each parent has
-// a smaller number, all that comes to a group has come when its turn is. What comes to the top is the rank, and the selection fits where
-// each group passed on all that came to it.
+// Each selected row is counted at the group that it names; an earned row (of kind 1, under the second terms 1 to 3), on the card side,
+// above that group. Then the rows rise, from the last group to the first: a group passes on to its parent as many as came to it, but no
+// more than its limit. Since each parent has a smaller number, all that comes to a group has come when its turn is. What comes to the top
+// is the rank, and the selection fits where each group passed on all that came to it.
 // A stored file's limits are read as they are written: what fits these fits the lowered ones, with the same rank and spare places.
 // The cost is rows + groups; the memory is one count for each group of one side, and one for the top.
 // For the spare places of a row, a walk through the parents, from the group where the row hangs, lists the groups that it counts in. It
@@ -13,23 +13,28 @@
 ghost use mathlib.Core.Path.{_≡_};
 ghost use Prim.Native.Nat.{_+_, _-_, min, _<_, _≤_};
 ghost use lib.ListN.{length};
-ghost use Rattle.theory.specs.Bounds.{maxGroups};
+ghost use Rattle.theory.specs.Bounds.{maxGroups, maxRows};
 ghost use Rattle.claimfile.specs.Day.{instanceOf};
 ghost use Rattle.claimfile.specs.Sound.{Sound};
 ghost use Rattle.claimfile.specs.declared.Reading.the-variants.{Accepted};
-ghost use Rattle.limits.specs.Answers.{bits, enteredBy, entered, Finds, SparesOn, Answered, Spared};
+ghost use Rattle.limits.specs.Answers.{bits, enteredBy, enteredIn, Finds, SparesOn, AnsweredIn, Answered, AnsweredKinds, Spared};
+ghost use Rattle.limits.specs.Answers as told;
+ghost use Rattle.limits.specs.Numbers.{rankedNumbers};
 ghost use Rattle.limits.specs.Ready.{Ready};
 ghost use Rattle.limits.specs.Side.{parentBy, hangs, Zero, Counted, Passes, PassedOn, Begun, Rose, Placed};
 ghost use Rattle.limits.specs.Chain.{Ups, Climbed, Chained};
 use claimfile::DAYS;
+use claimfile::FIRST_TERMS;
 use claimfile::Form;
 use claimfile::Layout;
 use claimfile::Reading;
+use claimfile::SECOND_TERMS;
 use claimfile::claim_of;
 use claimfile::group_of;
 use claimfile::groups_on;
-use claimfile::read;
+use claimfile::read_in;
 use refusal::Reason;
+use refusal::number;
 use theory::MAX_GROUPS;
 use theory::MAX_LIMIT;
 
@@ -40,6 +45,15 @@ const CELLS: usize = MAX_GROUPS + 1;
 pub enum Ranked {
     Told { fits: bool, rank: usize },
     Refused(Reason),
+}
+
+// The same in numbers, for the till's C program under either terms: the refusal's number and zeros where the call is turned away; else 0,
+// 1 where the selection fits and 0 where not, and its rank.
+#[repr(C)]
+pub struct FitsAndRank {
+    pub refusal: u32,
+    pub fits: u32,
+    pub rank: u32,
 }
 
 // How many further claims like a row would fit beside a selection.
@@ -292,22 +306,22 @@ fn judge(layout: Layout, selection: &[u8]) -> Entry
     Entry::Turned(Reason::Value)
 }
 
-// Reads a file and judges a selection of its rows.
-fn enter(file: &[u8], form: Form, selection: &[u8]) -> Entry
-    ensures { λ r. ⌜ r ≡ entered form (now (file .entry)) (now (selection .entry)) ⌝ }
+// Reads a file whose claims have so many kinds and judges a selection of its rows.
+fn enter(file: &[u8], form: Form, kinds: u8, selection: &[u8]) -> Entry
+    ensures { λ r. ⌜ r ≡ enteredIn kinds form (now (file .entry)) (now (selection .entry)) ⌝ }
 {
-    let reading = read(file, form);
+    let reading = read_in(file, form, kinds);
     match reading {
         Reading::Refused(why) => Entry::Turned(Reason::File(why)),
         Reading::Accepted(layout) => judge(layout, selection),
     }
 }
 
-// Whether a selection fits a side (0 card, 1 shop), and its rank there, for a file in a form.
-pub fn fits_and_rank(file: &[u8], form: Form, selection: &[u8], side: usize) -> Ranked
-    ensures { λ r. ⌜ Answered form (now (file .entry)) (now (selection .entry)) side r ⌝ }
+// Whether a selection fits a side (0 card, 1 shop), and its rank there, for a file in a form whose claims have so many kinds.
+fn rank_in(file: &[u8], form: Form, kinds: u8, selection: &[u8], side: usize) -> Ranked
+    ensures { λ r. ⌜ AnsweredIn kinds form (now (file .entry)) (now (selection .entry)) side r ⌝ }
 {
-    let entry = enter(file, form, selection);
+    let entry = enter(file, form, kinds, selection);
     match entry {
         Entry::Turned(why) => Ranked::Refused(why),
         Entry::Entered(layout) => {
@@ -323,11 +337,49 @@ pub fn fits_and_rank(file: &[u8], form: Form, selection: &[u8], side: usize) -> 
     }
 }
 
+// Whether a selection fits a side, and its rank there, under the first terms.
+pub fn fits_and_rank(file: &[u8], form: Form, selection: &[u8], side: usize) -> Ranked
+    ensures { λ r. ⌜ Answered form (now (file .entry)) (now (selection .entry)) side r ⌝ }
+{
+    rank_in(file, form, FIRST_TERMS, selection, side)
+}
+
+// The same under the second terms, for a new file in the week layout and a day.
+pub fn fits_and_rank_kinds(file: &[u8], day: usize, selection: &[u8], side: usize) -> Ranked
+    ensures { λ r. ⌜ AnsweredKinds day (now (file .entry)) (now (selection .entry)) side r ⌝ }
+{
+    let form = Form {
+        week: true,
+        stored: false,
+        day,
+    };
+    rank_in(file, form, SECOND_TERMS, selection, side)
+}
+
+// The numbers for an answer of fits and rank.
+pub fn ranked_numbers(answer: Ranked) -> FitsAndRank
+    requires { ⌜ told.rankedNumbers answer .rank ≤ maxRows ⌝ }
+    ensures { λ r. ⌜ r ≡ rankedNumbers answer ⌝ }
+{
+    match answer {
+        Ranked::Told { fits, rank } => FitsAndRank {
+            refusal: 0,
+            fits: fits as u32,
+            rank: rank as u32,
+        },
+        Ranked::Refused(why) => FitsAndRank {
+            refusal: number(why),
+            fits: 0,
+            rank: 0,
+        },
+    }
+}
+
 // How many further claims like the row would fit beside a selection that does not hold it, for a file in a form.
 pub fn spare_places(file: &[u8], form: Form, selection: &[u8], row: usize) -> Spare
     ensures { λ r. ⌜ Spared form (now (file .entry)) (now (selection .entry)) row r ⌝ }
 {
-    let entry = enter(file, form, selection);
+    let entry = enter(file, form, FIRST_TERMS, selection);
     match entry {
         Entry::Turned(why) => Spare::Refused(why),
         Entry::Entered(layout) => {

@@ -24,12 +24,13 @@ use Rattle.claimfile.specs.declared.Layout.{Layout}
 use Rattle.claimfile.specs.declared.Reading.{Reading}
 use Rattle.claimfile.specs.declared.Reading.the-variants.{Accepted, Refused}
 use Rattle.claimfile.specs.declared.Refusal.the-variants.{CutOff}
-use Rattle.claimfile.specs.File.{newOld, noneAbove, groupFault, claimFault, recordsFrom, countFault, sectionAt, claimsAt, reading}
+use Rattle.claimfile.specs.File.{newOld, noneAbove, groupFault, claimFault, recordsFrom, countFault, sectionAt, claimsAt}
+use Rattle.claimfile.specs.File.{readingIn, reading}
 use Rattle.claimfile.specs.Day.{instanceOf}
-use Rattle.claimfile.proofs.AcceptedLaws.{accepted-sound}
+use Rattle.claimfile.proofs.AcceptedLaws.{accepted-sound, accepted-kinds}
 use Rattle.closing.specs.declared.Totals.{Totals}
 use Rattle.closing.specs.Settle.{needed, markOf, claimMarkOf, Closes}
-use Rattle.closing.proofs.SettleLaws.{kinds-two, day-formed}
+use Rattle.closing.proofs.SettleLaws.{day-formed}
 use Rattle.closing.proofs.AnswerLaws.{best-earned, best-rows}
 use Rattle.closing.proofs.Demand.{total-counts}
 use Rattle.days.specs.Days.{Day, dayOf}
@@ -100,7 +101,7 @@ module _
     stated-a = as-stated (dayOf 0) (ap (λ x. getD x 0 (refused CutOff)) days-hold) l is ch sheet t ch′ sheet′ t′ a C
 
     rows-a : 3 ≡ l .rows
-    unfolding noneAbove every groupFault claimFault recordsFrom countFault sectionAt claimsAt reading
+    unfolding noneAbove every groupFault claimFault recordsFrom countFault sectionAt claimsAt readingIn
     rows-a = ap rowsIn is
 
     pub kept-a : (row ch′ 0 ≡ 1) × (row ch′ 1 ≡ 1) × (row ch′ 2 ≡ 0)
@@ -119,7 +120,8 @@ module _
         let i = instanceOf (dayOf 0 .file) l in
         omega (
           arith,
-          total-counts i (day-formed (dayOf 0 .file) l sound) (kinds-two (dayOf 0 .file) l sound) ch sheet t ch′ sheet′ t′ a C,
+          total-counts i (day-formed (dayOf 0 .file) l sound) (accepted-kinds (newOld 0) (dayOf 0 .file) l is) ch sheet t ch′ sheet′ t′ a
+              C,
           ap (λ x. l .rows * x) (counts-a .0),
           counts-a .1,
           rows-a,
@@ -143,7 +145,7 @@ module _
     stated-o = as-stated (dayOf 6) (ap (λ x. getD x 6 (refused CutOff)) days-hold) l is ch sheet t ch′ sheet′ t′ a C
 
     rows-o : 3 ≡ l .rows
-    unfolding noneAbove every groupFault claimFault recordsFrom countFault sectionAt claimsAt reading
+    unfolding noneAbove every groupFault claimFault recordsFrom countFault sectionAt claimsAt readingIn
     rows-o = ap rowsIn is
 
     pub given-up : (row ch′ 0 ≡ 0) × (row ch′ 1 ≡ 1) × (row ch′ 2 ≡ 1)

@@ -16,6 +16,7 @@ pub mod FirstLaws
 pub mod SearchLaws
 pub mod BestLaws
 pub mod ChoiceLaws
+pub mod KindsLaws
 pub mod ListsLaws
 pub mod LoweredLaws
 pub mod LevelLaws

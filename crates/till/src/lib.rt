@@ -3,15 +3,15 @@
 // A slice is passed as a pointer and a length. Each call on a file answers a struct of numbers by value; accept answers one number. Only
 // settle, the slip, the canonical form and the codes change lent memory. A call takes a new file in the week layout; of the three beside it
 // the one with `_stored` in its name takes a stored file, the one with `_old` a file in the old layout, and the one with both a stored file
-// in the old layout.
+// in the old layout. All take their files under the first terms; crate `till_kinds` has the calls for the second.
 ghost use mathlib.Core.Path.{_≡_};
 ghost use Prim.Native.Nat.{_≤_};
-ghost use Rattle.theory.specs.Bounds.{maxRows, maxLimit};
+ghost use Rattle.theory.specs.Bounds.{maxLimit};
 ghost use Rattle.claimfile.specs.File.{newWeek, storedWeek, newOld, storedOld};
 ghost use Rattle.limits.specs.Answers as limits-answers;
 ghost use Rattle.slip.specs.Write as slip-write;
 ghost use Rattle.canonical.specs.Write as canonical-write;
-ghost use Rattle.till.specs.Numbers.{rankedNumbers, spareNumbers, FitsAndRankIs, SparePlacesIs};
+ghost use Rattle.till.specs.Numbers.{spareNumbers, FitsAndRankIs, SparePlacesIs};
 ghost use Rattle.till.specs.SettleNumbers.{settledNumbers, SettleIs};
 ghost use Rattle.till.specs.WriteNumbers.{writtenNumbers, WriteIs, CodesAre};
 ghost use Rattle.till.specs.AcceptNumber.{AcceptIs};
@@ -23,24 +23,17 @@ use claimfile::Form;
 use closing::Settled;
 use closing::settle;
 use codes::write_codes;
-use limits::Ranked;
+use limits::FitsAndRank;
 use limits::Spare;
 use limits::fits_and_rank;
+use limits::ranked_numbers;
 use limits::spare_places;
 use refusal::Written;
 use refusal::number;
 use slip::write_slip;
 
 // Which library this is. It rises by one with each change of a call, a needed length or an answer.
-pub const VERSION: u32 = 10;
-
-// The refusal's number and zeros where the call is turned away; else 0, 1 where the selection fits and 0 where not, and its rank.
-#[repr(C)]
-pub struct FitsAndRank {
-    pub refusal: u32,
-    pub fits: u32,
-    pub rank: u32,
-}
+pub const VERSION: u32 = 11;
 
 // The refusal's number and 0 where the call is turned away; else 0, and how many further claims like the row would fit.
 #[repr(C)]
@@ -64,25 +57,6 @@ pub struct SettleAnswer {
 pub struct WriteAnswer {
     pub refusal: u32,
     pub length: u64,
-}
-
-// The numbers for an answer of fits and rank.
-fn ranked_numbers(answer: Ranked) -> FitsAndRank
-    requires { ⌜ limits-answers.rankedNumbers answer .rank ≤ maxRows ⌝ }
-    ensures { λ r. ⌜ r ≡ rankedNumbers answer ⌝ }
-{
-    match answer {
-        Ranked::Told { fits, rank } => FitsAndRank {
-            refusal: 0,
-            fits: fits as u32,
-            rank: rank as u32,
-        },
-        Ranked::Refused(why) => FitsAndRank {
-            refusal: number(why),
-            fits: 0,
-            rank: 0,
-        },
-    }
 }
 
 // Fits and rank for a file in a form.

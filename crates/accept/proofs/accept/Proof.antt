@@ -1,7 +1,7 @@
 -- The file's first fault is told, and what was sent with an accepted file is judged by `accept_on`.
 use mathlib.Core.Path.{refl, sym, _∙_}
 use borrow.Author.Needs.{needs}
-use Rattle.claimfile.proofs.AcceptedLaws.{accepted-sound}
+use Rattle.claimfile.proofs.AcceptedLaws.{accepted-sound, accepted-kinds}
 use Rattle.accept.proofs.VerdictLaws.{judges}
 use Rattle.accept.proofs.accept.Statement.{statement}
 use Rattle.accept.proofs.accept.Tie as tie
@@ -18,7 +18,8 @@ enum-known-reading-2 c = search needs
 accept-on-requires : tie.Need-accept-on-requires
 accept-on-requires c κs =
     let told = c .before in
-    accepted-sound _ _ _ (sym (told .before .before .read .ensures) ∙ told .reading2 .given .1)
+    let is = sym (told .before .before .read .ensures) ∙ told .reading2 .given .1 in
+    (accepted-sound _ _ _ is, accepted-kinds _ _ _ is)
 
 returns : tie.Need-returns
 returns c =

@@ -21,7 +21,7 @@ lengths c =
 
 marks-of-requires : tie.Need-marks-of-requires
 marks-of-requires c κs =
-    let sound = c .before .before .before .pre in
+    let sound = c .before .before .before .pre .0 in
     (sound .cards-most, sound .shops-most, sound .rows-most)
 
 returns : tie.Need-returns
@@ -53,10 +53,11 @@ judge-requires c κs =
     let a = start .args in
     record {
       ready = record {
-        sound = start .pre;
+        sound = start .pre .0;
         long = lengths long .0;
         bits = are-bits (a .layout .rows) (a .choice .now) (sym (asked .all-bits .ensures) ∙ c .if4 .taken);
       };
+      kinds = start .pre .1;
       sheets = lengths long .1;
     }
 

@@ -8,7 +8,7 @@ use Rattle.claimfile.specs.Day.{instanceOf}
 use Rattle.accept.specs.Accept.{covered}
 use Rattle.accept.specs.Judge.{nodes}
 use Rattle.accept.proofs.TableLaws.{zeros}
-use Rattle.accept.proofs.VerdictLaws.{judgeable-sheeted, judged-uncovered, judged-unequal, judged-accepted}
+use Rattle.accept.proofs.VerdictLaws.{judgeable-sheeted, judgeable-countable, judged-uncovered, judged-unequal, judged-accepted}
 use Rattle.accept.proofs.judge_sheet.Statement.{statement}
 use Rattle.accept.proofs.judge_sheet.Tie as tie
 
@@ -48,7 +48,8 @@ total-of-requires c κs =
 weight-kept-requires : tie.Need-weight-kept-requires
 weight-kept-requires c κs =
     let asked = c .before .before .before .before .before in
-    asked .before .before .before .before .before .pre .0 .ready
+    let start = asked .before .before .before .before .before in
+    judgeable-countable _ _ _ (start .args .sheet .now) (start .pre .0)
 
 returns-2 : tie.Need-returns-2
 returns-2 c =

@@ -2,6 +2,7 @@
 use mathlib.Core.Path.{refl, sym, _∙_}
 use native.Mathlib.Omega.{arith}
 use borrow.Author.Needs.{needs}
+use Rattle.claimfile.specs.File.{firstTerms}
 use Rattle.limits.proofs.EntryLaws.{entered-ready}
 use Rattle.limits.proofs.SpareLaws.{spare-value, spare-selected, spare-row, spared-by}
 use Rattle.limits.proofs.spare_places.Statement.{statement}
@@ -33,7 +34,7 @@ shared-slice-read-if2 c =
     let a = read .before .before .before .args in
     omega (
       arith,
-      entered-ready (a .form) (a .file .now) (a .selection .now) _ (sym (read .enter .ensures) ∙ told .entry2 .given .1) .long,
+      entered-ready firstTerms (a .form) (a .file .now) (a .selection .now) _ (sym (read .enter .ensures) ∙ told .entry2 .given .1) .long,
     )
 
 returns-2 : tie.Need-returns-2
@@ -50,8 +51,10 @@ spare-on-requires : tie.Need-spare-on-requires
 spare-on-requires c κs =
     let told = c .before .before .before .before .before in
     let read = told .before .before in
-    let a = read .before .before .before .args in
-    (entered-ready (a .form) (a .file .now) (a .selection .now) _ (sym (read .enter .ensures) ∙ told .entry2 .given .1), omega arith)
+    let a = read .before .before .before .args in (
+      entered-ready firstTerms (a .form) (a .file .now) (a .selection .now) _ (sym (read .enter .ensures) ∙ told .entry2 .given .1),
+      omega arith,
+    )
 
 returns-3 : tie.Need-returns-3
 returns-3 c =

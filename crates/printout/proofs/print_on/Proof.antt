@@ -57,7 +57,8 @@ returns c =
     let settled = told .before .before .before .before .before .before .before .before in
     let start = settled .before .before .before .before .before .before .before .before .before in
     let a = start .args in
-    prints-short (instanceOf (a .file .now) (a .layout)) (a .layout .day) (start .pre .1) (a .choice .now) (a .sheet .now) (a .scratch .now) _ _ _ _
+    prints-short (instanceOf (a .file .now) (a .layout)) (a .layout .day) (start .pre .2) (a .choice .now) (a .sheet .now)
+    (a .scratch .now) _ _ _ _
     (settled .settle-on .ensures) (a .out .now) _ _ _ (told .settled .given .1)
     (subst (λ (x : ℕ). Written (refusedText x) (a .out .now) (wrote .write-refused .last .1 .0) (wrote .write-refused .result))
     (wrote .before .before .number .ensures) (wrote .write-refused .ensures))
@@ -81,7 +82,8 @@ returns-2 c =
     let settled = told .before .before .before .before .before .before .before .before in
     let start = settled .before .before .before .before .before .before .before .before .before in
     let a = start .args in
-    prints-closed (instanceOf (a .file .now) (a .layout)) (a .layout .day) (start .pre .1) (a .choice .now) (a .sheet .now) (a .scratch .now) _ _ _ _
+    prints-closed (instanceOf (a .file .now) (a .layout)) (a .layout .day) (start .pre .2) (a .choice .now) (a .sheet .now)
+    (a .scratch .now) _ _ _ _
     (settled .settle-on .ensures) (a .out .now) _ _ _ (told .settled2 .given .1) (wrote .write-closed .ensures)
 
 pub print-on-spec : {M : Type 1} → statement M

@@ -1,7 +1,8 @@
 -- The row's mark and the cells of the two nodes where it hangs come to its weight exactly where the true sums do (`covers-is`).
-use mathlib.Core.Path.{_≡_, _∙_}
+use mathlib.Core.Path.{_≡_, ap, _∙_}
 use native.Mathlib.Omega.{arith}
 use borrow.Author.Needs.{needs}
+use Rattle.claimfile.specs.declared.Claim.{Claim}
 use Rattle.claimfile.specs.Day.{cardNode, shopNode}
 use Rattle.tables.proofs.WriteLaws.{card-hung, shop-hung, weighed}
 use Rattle.accept.proofs.TableLaws.{card-cell, shop-cell}
@@ -52,8 +53,13 @@ add-own c = search needs
 add-own-2 : tie.Need-add-own-2
 add-own-2 c = search needs
 
-weight-of-requires : tie.Need-weight-of-requires
-weight-of-requires c κs = search needs
+power-requires : tie.Need-power-requires
+power-requires c κs =
+    let read = c .before .before .before .before in
+    let start = read .before .before .before .before in (
+      start .pre .0 .sound .rows-most,
+      omega (arith, ap (λ (x : Claim). x .kind) (read .claim-of .ensures .0), start .pre .0 .kinds (start .args .c) (start .pre .2)),
+    )
 
 long-requires : tie.Need-long-requires
 long-requires c κs = search needs
@@ -79,9 +85,9 @@ returns c =
     let read = card .before in
     let start = read .before .before .before .before in
     let a = start .args in
-    covers-is (a .file .now) (a .layout) (start .pre .0 .sound) (a .sheet .now) (a .prices .now) (start .pre .1) (a .c)
-    (start .pre .2) _ (c .wide .result) _ _ _
-    (weighed-as .long .ensures ∙ weighed-as .before .weight-of .ensures .0
+    covers-is (a .file .now) (a .layout) (start .pre .0 .sound) (start .pre .0 .kinds) (a .sheet .now) (a .prices .now) (start .pre .1)
+    (a .c) (start .pre .2) _ (c .wide .result) _ _ _
+    (weighed-as .long .ensures ∙ weighed-as .before .power .ensures .0
     ∙ weighed (a .file .now) (a .layout) (a .c) _ (read .claim-of .ensures .0))
     (omega (arith, c .wide .ensures .0)) (card-is card) (shop-is shop) (priced .price-of .ensures .0)
 
@@ -95,7 +101,7 @@ covers-row-spec =
     price-of-requires
     add-own
     add-own-2
-    weight-of-requires
+    power-requires
     long-requires
     mul-wide
     shared-slice-read-wide

@@ -1,5 +1,5 @@
--- `read` meets its contract. The loop keeps that the group sections of the sides before `side` were read, with their counts and places, and
--- that the next section stands at `at` (`ReadTo`); the first fault met is told of the file.
+-- `read_in` meets its contract. The loop keeps that the group sections of the sides before `side` were read, with their counts and
+-- places, and that the next section stands at `at` (`ReadTo`); the first fault met is told of the file.
 use mathlib.Core.Path.{sym, _∙_, ap}
 use Prim.Native.Nat.{_-_}
 use native.Mathlib.Omega.{arith}
@@ -8,14 +8,14 @@ use Rattle.claimfile.specs.File.{refusedBy}
 use Rattle.claimfile.specs.Sections.{placeOn}
 use Rattle.claimfile.proofs.FileLaws.{claims-fault, trailing, accepted}
 use Rattle.claimfile.proofs.ReadLaws.{ReadTo, read-start, read-next, read-fault, read-cards, read-shops}
-use Rattle.claimfile.proofs.read.Statement.{statement}
-use Rattle.claimfile.proofs.read.Tie as tie
+use Rattle.claimfile.proofs.read_in.Statement.{statement}
+use Rattle.claimfile.proofs.read_in.Tie as tie
 
 abbrev Inv-loop : tie.InvT-loop
-Inv-loop file form counts₀ starts₀ at₀ side₀ counts starts at side = ReadTo form file side counts starts at
+Inv-loop file form kinds counts₀ starts₀ at₀ side₀ counts starts at side = ReadTo form file side counts starts at
 
 abbrev μ-loop : tie.MeasureT-loop
-μ-loop file form counts₀ starts₀ at₀ side₀ counts starts at side = 2 - side
+μ-loop file form kinds counts₀ starts₀ at₀ side₀ counts starts at side = 2 - side
 
 loop-holds : tie.Need-loop-holds Inv-loop μ-loop
 loop-holds c = read-start (c .before .args .form) (c .before .args .file .now)
@@ -42,7 +42,7 @@ returns c =
     c .refused-by .ensures ∙ ap refusedBy told
     ∙ sym
     (read-fault (a .form) (a .file .now) (at .loop .side) (at .loop .counts) (at .loop .starts) (at .loop .at) (at .loop .inv)
-    (omega arith) _ (sym (called .read-groups .ensures) ∙ told))
+    (omega arith) (a .kinds) _ (sym (called .read-groups .ensures) ∙ told))
 
 mul-counts : tie.Need-mul-counts Inv-loop μ-loop
 mul-counts c = omega arith
@@ -98,7 +98,7 @@ returns-2 c =
     let l = at .loop in
     c .refused-by2 .ensures ∙ ap refusedBy told
     ∙ sym
-    (claims-fault (a .form) (a .file .now) _ _ (placeOn (a .form) (a .file .now) 1)
+    (claims-fault (a .kinds) (a .form) (a .file .now) _ _ (placeOn (a .form) (a .file .now) 1)
     (read-cards (a .form) (a .file .now) (l .side) (l .counts) (l .starts) (l .at) (l .inv) (omega arith)) _ _ _
     (read-shops (a .form) (a .file .now) (l .side) (l .counts) (l .starts) (l .at) (l .inv) (omega arith)) _
     (sym (called .read-claims .ensures) ∙ told))
@@ -110,22 +110,22 @@ returns-3 c =
     let a = at .before .before .args in
     let l = at .loop in
     sym
-    (trailing (a .form) (a .file .now) _ _ (placeOn (a .form) (a .file .now) 1)
+    (trailing (a .kinds) (a .form) (a .file .now) _ _ (placeOn (a .form) (a .file .now) 1)
     (read-cards (a .form) (a .file .now) (l .side) (l .counts) (l .starts) (l .at) (l .inv) (omega arith)) _ _ _
     (read-shops (a .form) (a .file .now) (l .side) (l .counts) (l .starts) (l .at) (l .inv) (omega arith)) _ _ _
     (sym (called .read-claims .ensures) ∙ c .before .before .claims .given .1) (omega arith))
 
-array-read-t26 : tie.Need-array-read-t26 Inv-loop μ-loop
-array-read-t26 c = omega arith
+array-read-t27 : tie.Need-array-read-t27 Inv-loop μ-loop
+array-read-t27 c = omega arith
 
-array-read-t23 : tie.Need-array-read-t23 Inv-loop μ-loop
-array-read-t23 c = omega arith
+array-read-t24 : tie.Need-array-read-t24 Inv-loop μ-loop
+array-read-t24 c = omega arith
 
-array-read-t35 : tie.Need-array-read-t35 Inv-loop μ-loop
-array-read-t35 c = omega arith
+array-read-t36 : tie.Need-array-read-t36 Inv-loop μ-loop
+array-read-t36 c = omega arith
 
-array-read-t38 : tie.Need-array-read-t38 Inv-loop μ-loop
-array-read-t38 c = omega arith
+array-read-t39 : tie.Need-array-read-t39 Inv-loop μ-loop
+array-read-t39 c = omega arith
 
 returns-4 : tie.Need-returns-4 Inv-loop μ-loop
 returns-4 c =
@@ -134,13 +134,13 @@ returns-4 c =
     let a = at .before .before .args in
     let l = at .loop in
     sym
-    (accepted (a .form) (a .file .now) _ _ (placeOn (a .form) (a .file .now) 1)
+    (accepted (a .kinds) (a .form) (a .file .now) _ _ (placeOn (a .form) (a .file .now) 1)
     (read-cards (a .form) (a .file .now) (l .side) (l .counts) (l .starts) (l .at) (l .inv) (omega arith)) _ _ _
     (read-shops (a .form) (a .file .now) (l .side) (l .counts) (l .starts) (l .at) (l .inv) (omega arith)) _ _ _
     (sym (called .read-claims .ensures) ∙ c .before .before .claims .given .1) (omega arith))
 
-pub read-spec : {M : Type 1} → statement M
-read-spec =
+pub read-in-spec : {M : Type 1} → statement M
+read-in-spec =
     tie.close
     (tie.spec
     Inv-loop
@@ -166,8 +166,8 @@ read-spec =
     refused-by-requires-2
     returns-2
     returns-3
-    array-read-t26
-    array-read-t23
-    array-read-t35
-    array-read-t38
+    array-read-t27
+    array-read-t24
+    array-read-t36
+    array-read-t39
     returns-4)

@@ -1,0 +1,4 @@
+-- The laws of settling under the second terms.
+pub mod CountLaws
+pub mod LowLaws
+pub mod AnswerLaws

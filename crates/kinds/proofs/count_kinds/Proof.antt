@@ -1,0 +1,56 @@
+-- `count_kinds` meets its contract: the four counts are those of the choice, and so are their sum and their weight.
+use mathlib.Core.Path.{refl}
+use native.Mathlib.Omega.{arith}
+use borrow.Author.Needs.{needs}
+use Rattle.kinds.proofs.CountLaws.{counted-kinds}
+use Rattle.kinds.proofs.count_kinds.Statement.{statement}
+use Rattle.kinds.proofs.count_kinds.Tie as tie
+
+count-kind-requires : tie.Need-count-kind-requires
+count-kind-requires c κs = search needs
+
+count-kind-requires-2 : tie.Need-count-kind-requires-2
+count-kind-requires-2 c κs = search needs
+
+count-kind-requires-3 : tie.Need-count-kind-requires-3
+count-kind-requires-3 c κs = search needs
+
+count-kind-requires-4 : tie.Need-count-kind-requires-4
+count-kind-requires-4 c κs = search needs
+
+add-t8 : tie.Need-add-t8
+add-t8 c = search needs
+
+add-t9 : tie.Need-add-t9
+add-t9 c = search needs
+
+add-t10 : tie.Need-add-t10
+add-t10 c = search needs
+
+weigh-requires : tie.Need-weigh-requires
+weigh-requires c κs = search needs
+
+returns : tie.Need-returns
+returns c =
+    let fourth = c .before in
+    let third = fourth .before in
+    let second = third .before in
+    let first = second .before in
+    let start = first .before .before .before in
+    counted-kinds _ (start .pre .kinds) _ _ (omega (arith, first .count-kind .ensures .0))
+    (omega (arith, second .count-kind2 .ensures .0))
+    (omega (arith, third .count-kind3 .ensures .0)) (omega (arith, fourth .count-kind4 .ensures .0)) refl (c .weigh .ensures)
+
+pub count-kinds-spec : {M : Type 1} → statement M
+count-kinds-spec =
+    tie.close
+    (tie.spec
+    count-kind-requires
+    count-kind-requires-2
+    count-kind-requires-3
+    count-kind-requires-4
+    add-t8
+    add-t9
+    add-t10
+    weigh-requires
+    returns)

@@ -1,0 +1,2 @@
+-- What settling under the second terms answers and leaves.
+pub mod Settle

@@ -1,0 +1,4 @@
+-- The laws of the two terms.
+pub mod Demand
+pub mod Either
+pub mod Days
