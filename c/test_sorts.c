@@ -1,107 +1,12 @@
 /*
- * Tests of the sorts of file, with all calls on a file. A faulty file is refused by its own number, whatever is lent and whichever day is
- * named, and nothing is changed. A limit above its parent's, on any weekday, is refused in a new file, with 11, and lowered in a stored
- * one: what the calls answer and leave for a stored file, they answer and leave for the same week lowered, in a stored file and in a new
- * one. And what they answer and leave for a file in the old layout, they answer and leave for the same week in the week layout.
+ * Tests of the sorts of file, with all calls on a file. A limit above its parent's, on any weekday, is refused in a new file, with 11, and
+ * lowered in a stored one: what the calls answer and leave for a stored file, they answer and leave for the same week lowered, in a stored
+ * file and in a new one. What they answer and leave for a file in the old layout, they answer and leave for the same week in the week
+ * layout. And files that are broken at random are refused as the plain reader refuses them. Other faults are in test_refusals.c.
  */
 #include <stdio.h>
 #include <string.h>
-#include "sorts.h"
-
-/* ---- All calls on a file ---- */
-
-/* The selection that the calls are given. */
-static uint8_t selection[MOST_ROWS];
-
-/* What is lent to the calls to be changed. Before them every byte of it is FILL. */
-struct lent {
-    uint8_t choice[CLAIMS_LONGEST_CHOICE], slip[CLAIMS_LONGEST_SLIP], canonical[CLAIMS_LONGEST_CANONICAL], codes[CLAIMS_LONGEST_CODES];
-    uint32_t sheet[CLAIMS_LONGEST_SHEET], scratch[CLAIMS_LONGEST_SCRATCH], codes_scratch[CLAIMS_LONGEST_SCRATCH];
-};
-enum { FILL = 0xa5 };
-
-/* How much of each the calls are told of: as much as any file needs, or nothing. */
-struct lengths {
-    size_t selection, choice, slip, canonical, codes, sheet, scratch;
-};
-static const struct lengths longest = {
-    .selection = CLAIMS_LONGEST_SELECTION,
-    .choice = CLAIMS_LONGEST_CHOICE,
-    .slip = CLAIMS_LONGEST_SLIP,
-    .canonical = CLAIMS_LONGEST_CANONICAL,
-    .codes = CLAIMS_LONGEST_CODES,
-    .sheet = CLAIMS_LONGEST_SHEET,
-    .scratch = CLAIMS_LONGEST_SCRATCH,
-};
-static const struct lengths nothing;
-
-/* The two sides and one that does not exist. */
-enum { SIDES = 3 };
-
-/* What the calls answer and leave. */
-struct told {
-    struct claims_fits_and_rank_answer ranked[SIDES];
-    struct claims_spare_places_answer spare;
-    struct claims_settle_answer settled;
-    struct claims_write_slip_answer slip;
-    struct claims_write_canonical_answer canonical;
-    struct claims_write_codes_answer codes;
-    uint32_t accepted;
-    struct lent lent;
-};
-
-/*
- * Makes all calls of a sort on a file. They name the weekday, or what stands in its place. Accept is given what settle leaves, or nothing
- * but FILL where settle is refused.
- */
-static void ask(const struct sort *by, const struct file *f, unsigned weekday, const struct lengths *n, unsigned row, struct told *t) {
-    struct lent *l = &t->lent;
-    memset(l, FILL, sizeof *l);
-    for (unsigned side = 0; side < SIDES; side++)
-        t->ranked[side] = by->fits_and_rank(f->bytes, f->length, selection, n->selection, side, weekday);
-    t->spare = by->spare_places(f->bytes, f->length, selection, n->selection, row, weekday);
-    t->settled = by->settle(f->bytes, f->length, weekday, l->choice, n->choice, l->sheet, n->sheet, l->scratch, n->scratch);
-    t->slip = by->write_slip(f->bytes, f->length, selection, n->selection, weekday, l->slip, n->slip);
-    t->canonical = by->write_canonical(f->bytes, f->length, l->canonical, n->canonical);
-    t->codes = by->write_codes(f->bytes, f->length, weekday, l->codes, n->codes, l->codes_scratch, n->scratch);
-    t->accepted = by->accept(f->bytes, f->length, l->choice, n->choice, l->sheet, n->sheet, weekday);
-}
-
-/* Whether the calls that name a day gave the number alone, and changed nothing. */
-static int calls_gave(const struct told *t, unsigned number) {
-    static struct lent before;
-    memset(&before, FILL, sizeof before);
-    memcpy(before.canonical, t->lent.canonical, sizeof before.canonical);
-    for (unsigned side = 0; side < SIDES; side++)
-        if (t->ranked[side].refusal != number || t->ranked[side].fits != 0 || t->ranked[side].rank != 0) return 0;
-    return t->spare.refusal == number && t->spare.places == 0 && t->settled.refusal == number && t->settled.earned == 0 &&
-           t->settled.kept == 0 && t->settled.total == 0 && t->slip.refusal == number && t->slip.length == 0 &&
-           t->codes.refusal == number && t->codes.length == 0 && t->accepted == number && memcmp(&t->lent, &before, sizeof before) == 0;
-}
-
-/* Whether the canonical form, which names no day, did so. */
-static int form_gave(const struct told *t, unsigned number) {
-    for (size_t i = 0; i < sizeof t->lent.canonical; i++)
-        if (t->lent.canonical[i] != FILL) return 0;
-    return t->canonical.refusal == number && t->canonical.length == 0;
-}
-
-/* A day that the week does not have. */
-static unsigned no_weekday(void) { return no_weekdays[below(NO_WEEKDAYS)]; }
-
-static void refused_with(const char *what, const struct sort *by, const struct file *f, unsigned weekday, const struct lengths *n,
-                         unsigned number) {
-    static struct told t;
-    ask(by, f, weekday, n, MOST_ROWS, &t);
-    expect(calls_gave(&t, number) && form_gave(&t, number), "%s, %s, day %u: not refused with %u", by->name, what, weekday, number);
-}
-
-/* The file is judged first: it is refused by its own number with all that a call may need, with nothing, and on a day over 6. */
-static void refused(const char *what, const struct sort *by, const struct file *f, unsigned number) {
-    refused_with(what, by, f, below(WEEKDAYS), &longest, number);
-    refused_with(what, by, f, below(WEEKDAYS), &nothing, number);
-    refused_with(what, by, f, no_weekday(), below(2) ? &longest : &nothing, number);
-}
+#include "calls.h"
 
 /* A week that is refused, by this number, in a new file of a layout. */
 static void refused_new(const char *what, const struct week *w, unsigned layout, unsigned number) {
@@ -281,90 +186,7 @@ static void earned_lowered(void) {
     part_done("earned rows under lowered limits");
 }
 
-/* ---- Files as bytes ---- */
-
-/* A limit as it stands in a record: once in the old layout, and seven times in the week layout. */
-#define ONCE(limit) limit
-#define SEVEN(limit) limit limit limit limit limit limit limit
-#define BYTES(text) (const uint8_t *)(text), sizeof(text) - 1
-
-struct bytes {
-    const char *what;
-    const uint8_t *at;
-    size_t length;
-    unsigned told[2]; /* of a new file, and of a stored one */
-};
-
-static void copy_bytes(const struct bytes *b, struct file *f) {
-    f->length = b->length;
-    memcpy(f->bytes, b->at, b->length);
-}
-
-/* Day A of document 01. */
-#define DAY_A(L)                                                                                                                           \
-    {"day A",                                                                                                                              \
-     BYTES("\2\0\xff\xff" L("\1\0") "\xff\xff" L("\1\0") "\2\0\xff\xff" L("\1\0") "\xff\xff" L("\1\0")                                     \
-               "\3\0\0\0\0\0\1\0\0\1\0\0\1\0\0\0\0"),                                                                                      \
-     {0, 0}}
-static const struct bytes a_bytes[] = {[OLD] = DAY_A(ONCE), [WEEK] = DAY_A(SEVEN)};
-
-/* It is settled alike by the calls of each sort, on each weekday. Taken for the other layout, its second record has a wrong parent. */
-static void day_a_as_bytes(void) {
-    static struct file f;
-    static struct told t;
-    expect(a_bytes[OLD].length == 37 && a_bytes[WEEK].length == 85, "the lengths of day A");
-    for (const struct sort *by = sorts; by < sorts + SORTS; by++) {
-        copy_bytes(&a_bytes[by->layout], &f);
-        for (unsigned weekday = 0; weekday < WEEKDAYS; weekday++) {
-            ask(by, &f, weekday, &longest, 0, &t);
-            expect(t.settled.refusal == 0 && t.settled.earned == 1 && t.settled.kept == 2 && t.settled.total == 5, "day A: the numbers");
-            expect(memcmp(t.lent.choice, "\1\1\0", 3) == 0, "day A: the choice");
-            expect(t.canonical.length == 85 && memcmp(t.lent.canonical, a_bytes[WEEK].at, 85) == 0, "day A: the form in the week layout");
-        }
-        copy_bytes(&a_bytes[1 - by->layout], &f);
-        refused("day A in the other layout", by, &f, CLAIMS_PARENT);
-    }
-    part_done("day A as bytes");
-}
-
 /* ---- Faults ---- */
-
-/*
- * Document 01's examples, and then files with a limit above its parent's and a fault after it or on the same record: what is told of each
- * as a new file, and as a stored one.
- */
-#define FAULTY(L)                                                                                                                          \
-    {"cut off", BYTES("\0"), {1, 1}},                                                                                                      \
-    {"group count", BYTES("\1\1"), {2, 2}},                                                                                                \
-    {"parent", BYTES("\1\0\0\0" L("\5\0")), {3, 3}},                                                                                       \
-    {"claim count", BYTES("\0\0\0\0\1\2"), {4, 4}},                                                                                        \
-    {"no such group", BYTES("\0\0\0\0\1\0\0\0\0\0\0"), {5, 5}},                                                                            \
-    {"kind", BYTES("\1\0\xff\xff" L("\1\0") "\1\0\xff\xff" L("\1\0") "\1\0\0\0\0\0\2"), {6, 6}},                                           \
-    {"trailing", BYTES("\0\0\0\0\0\0\0"), {7, 7}},                                                                                         \
-    {"limit above, then cut off", BYTES("\2\0\xff\xff" L("\2\0") "\0\0" L("\3\0")), {11, 1}},                                              \
-    {"limit above, then group count", BYTES("\2\0\xff\xff" L("\2\0") "\0\0" L("\3\0") "\1\1"), {11, 2}},                                   \
-    {"limit above, then parent", BYTES("\3\0\xff\xff" L("\2\0") "\0\0" L("\3\0") "\2\0" L("\1\0")), {11, 3}},                              \
-    {"limit above, then claim count", BYTES("\0\0\2\0\xff\xff" L("\2\0") "\0\0" L("\3\0") "\1\2"), {11, 4}},                               \
-    {"limit above, then no group", BYTES("\0\0\2\0\xff\xff" L("\2\0") "\0\0" L("\3\0") "\1\0\0\0\0\0\0"), {11, 5}},                        \
-    {"limit above, then kind",                                                                                                             \
-     BYTES("\1\0\xff\xff" L("\1\0") "\2\0\xff\xff" L("\2\0") "\0\0" L("\3\0") "\1\0\0\0\0\0\2"), {11, 6}},                                 \
-    {"limit above, then trailing", BYTES("\2\0\xff\xff" L("\2\0") "\0\0" L("\3\0") "\0\0\0\0\0"), {11, 7}},                                \
-    {"parent and limit of one record", BYTES("\2\0\xff\xff" L("\2\0") "\1\0" L("\3\0")), {3, 3}},                                          \
-    {"parent, then limit above", BYTES("\3\0\xff\xff" L("\2\0") "\1\0" L("\1\0") "\0\0" L("\3\0")), {3, 3}},                               \
-    {"limit above, but its record is cut off", BYTES("\2\0\xff\xff" L("\2\0") "\0\0\3"), {1, 1}}
-static const struct bytes faulty[][17] = {[OLD] = {FAULTY(ONCE)}, [WEEK] = {FAULTY(SEVEN)}};
-
-static void faulty_files(void) {
-    static struct file f;
-    memset(selection, 2, sizeof selection);
-    for (const struct sort *by = sorts; by < sorts + SORTS; by++)
-        for (size_t i = 0; i < sizeof faulty[0] / sizeof *faulty[0]; i++) {
-            const struct bytes *b = &faulty[by->layout][i];
-            copy_bytes(b, &f);
-            refused(b->what, by, &f, b->told[by->stored]);
-        }
-    part_done("faulty files");
-}
 
 /* Where the record of a group ends in the file of a day. */
 static size_t behind_record(const struct day *d, unsigned layout, unsigned side, unsigned g) {
@@ -595,8 +417,6 @@ static void samples(void) {
 
 int main(void) {
     start_numbers(20270305);
-    day_a_as_bytes();
-    faulty_files();
     above_on_one_day();
     limits_above();
     for (const struct sort *by = sorts; by < sorts + SORTS; by++) broken_files(by, 1000);

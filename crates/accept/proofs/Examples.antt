@@ -10,7 +10,7 @@ use Rattle.theory.specs.Network.{onSide, onBoth, fitsBoth}
 use Rattle.theory.specs.Priority.{weightOf}
 use Rattle.claimfile.specs.File.{noneAbove, groupFault, claimFault, recordsFrom, countFault, sectionAt, claimsAt, readingIn}
 use Rattle.claimfile.specs.Day.{parentOf, writtenOf, limitOf, cardNode, shopNode}
-use Rattle.limits.specs.Answers.{bits}
+use Rattle.selection.specs.Selection.{bits}
 use Rattle.accept.specs.Accept.{covered, judged, verdict, verdictNumber}
 use Rattle.accept.specs.Examples.{Example, examples}
 

@@ -1,8 +1,5 @@
 -- Laws of the two tables that are filled from the first group on: the prices of the groups, and their limits.
 --   zeros                  a table at the start
---   groups-few             there are at most 512 groups
---   node-small card-cell shop-cell     the node above a group has a cell, and so have the nodes where a row hangs
---   node-is                the node above a group and its written limit, by its record
 --   priced-none priced-more priced-at  no price, one more, and the price of any node once all are there
 --   limit-step             a group's limit from the front, by its node
 --   lowers-none lowers-value lowers-more   no limit, the next one, and one more
@@ -16,20 +13,21 @@ use native.Mathlib.Decide.{ℕ-discrete, decLt}
 use native.Mathlib.Omega.{arith}
 use lib.ListN.{length, set, replicate, length-set, length-replicate}
 use lib.Seq.{getD-set-same, getD-set-other}
-use Rattle.theory.specs.Bounds.{maxGroups, maxLimit, cellBound}
+use Rattle.theory.specs.Bounds.{maxLimit, cellBound}
 use Rattle.theory.specs.Lowered.{lesser}
 use Rattle.theory.specs.Matroid.{row}
 use Rattle.theory.proofs.ForestLaws.{path-in, path-out}
 use Rattle.theory.proofs.LoweredLaws.{lesser-top, lowered-step}
-use Rattle.claimfile.specs.Day.{countOf, groupOf, groupsOf, firstOf, rootOf, above}
-use Rattle.claimfile.specs.Day.{parentOf, writtenOf, limitOf, cardNode, shopNode}
+use Rattle.claimfile.specs.Day.{groupsOf}
+use Rattle.claimfile.specs.Day.{parentOf, writtenOf, limitOf}
 use Rattle.claimfile.specs.Sound.{Sound}
-use Rattle.claimfile.specs.declared.Group.{Group}
 use Rattle.claimfile.specs.declared.Layout.{Layout}
-use Rattle.claimfile.proofs.DayLaws.{parent-on, written-on, day-down, sound-formed}
-use Rattle.limits.proofs.CountLaws.{zero-cell}
+use Rattle.claimfile.proofs.DayLaws.{day-down}
+use Rattle.instance.specs.Meaning.{nodes}
+use Rattle.instance.proofs.NodeLaws.{groups-few}
+use Rattle.sides.proofs.CountLaws.{zero-cell}
 use Rattle.closing.specs.Settle.{markOf}
-use Rattle.accept.specs.Judge.{nodes, mostProduct, Zeros, priceOf, Priced, Lowers}
+use Rattle.accept.specs.Judge.{mostProduct, Zeros, priceOf, Priced, Lowers}
 
 pub zeros : (n : ℕ) → nodes ≤ n → Zeros (replicate n 0)
 zeros n h = record { long = omega (arith, length-replicate {A = ℕ} n 0); zero = zero-cell n }
@@ -47,57 +45,7 @@ stored t i x l v =
 pub product-small : (a b : ℕ) → a < 65536 → b < cellBound → a * b ≤ mostProduct
 product-small a b h k = omega (arith, mul-le-mul {n₁ = a} {m₁ = b} {n₂ = 65536} {m₂ = cellBound} (omega arith) (omega arith))
 
-pub groups-few : {s : List ℕ} {l : Layout} → Sound s l → groupsOf l ≤ 2 * maxGroups
-groups-few sound = omega (arith, sound .cards-most, sound .shops-most)
-
 module _ (s : List ℕ) (l : Layout) (sound : Sound s l) where
-  pub node-small : (v : ℕ) → v < groupsOf l → parentOf s l v < nodes
-  node-small v h =
-      elim (decLt v (l .cards)) [
-        | yes k ↦
-            elim (sound-formed s l sound .card-parent v k) [
-              | inl q ↦ omega (arith, groups-few sound)
-              | inr q ↦ omega (arith, groups-few sound)
-            ]
-        | no k ↦
-            elim (sound-formed s l sound .shop-parent v (omega arith) h) [
-              | inl q ↦ omega (arith, q .1, groups-few sound)
-              | inr q ↦ omega (arith, groups-few sound)
-            ]
-      ]
-
-  pub node-is :
-      (side own v : ℕ) → own < countOf l side → firstOf l side + own ≡ v → v < groupsOf l →
-      (g : Group) → g ≡ groupOf s l side own →
-      (up : ℕ) → up ≡ above own (g .parent) (firstOf l side) (rootOf l side) →
-      (up ≡ parentOf s l v) × (g .limit ≡ writtenOf s l v) × (up < nodes)
-  node-is side own v inside e within g is up by = (
-    parent,
-    ap (λ (x : Group). x .limit) is ∙ sym (written-on s l side own inside) ∙ ap (writtenOf s l) e,
-    omega (arith, parent, node-small v within),
-  )
-    where
-      parent : up ≡ parentOf s l v
-      parent =
-          by
-          ∙ ap (λ (x : Group). above own (x .parent) (firstOf l side) (rootOf l side)) is
-          ∙ sym (parent-on s l side own inside)
-          ∙ ap (parentOf s l) e
-
-  pub card-cell : (c : ℕ) → c < l .rows → cardNode s l c < nodes
-  card-cell c h =
-      elim (sound-formed s l sound .card-node c h) [
-        | inl n ↦ omega (arith, sound .cards-most)
-        | inr n ↦ omega (arith, groups-few sound)
-      ]
-
-  pub shop-cell : (c : ℕ) → c < l .rows → shopNode s l c < nodes
-  shop-cell c h =
-      elim (sound-formed s l sound .shop-node c h) [
-        | inl n ↦ omega (arith, n .1, groups-few sound)
-        | inr n ↦ omega (arith, groups-few sound)
-      ]
-
   ------------------------------------------------------------------------------
   -- Prices
 

@@ -27,9 +27,10 @@ use Rattle.claimfile.specs.declared.Reading.the-variants as reading-is
 use Rattle.refusal.specs.declared.Reason.{Reason}
 use Rattle.refusal.specs.declared.Reason.the-variants.{File, Short, Day, Value, Unfit, Uncovered, Unequal}
 use Rattle.refusal.proofs.TableLaws.{number-some}
-use Rattle.limits.specs.Answers.{bits, foundOn}
-use Rattle.limits.specs.declared.Found.{Found}
-use Rattle.limits.proofs.SelectionLaws.{bits-are, are-bits}
+use Rattle.selection.specs.Selection.{bits}
+use Rattle.selection.proofs.SelectionLaws.{bits-are, are-bits}
+use Rattle.sides.specs.Found.{foundOn}
+use Rattle.sides.specs.declared.Found.{Found}
 use Rattle.closing.specs.Settle.{needed}
 use Rattle.accept.specs.declared.Verdict.{Verdict}
 use Rattle.accept.specs.declared.Verdict.the-variants.{Accepted, Refused}

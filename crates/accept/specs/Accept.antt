@@ -38,7 +38,7 @@ use Rattle.claimfile.specs.declared.Reading.{Reading}
 use Rattle.claimfile.specs.declared.Reading.the-variants as reading-is
 use Rattle.refusal.specs.declared.Reason.the-variants.{File, Short, Day, Value, Unfit, Uncovered, Unequal}
 use Rattle.refusal.specs.Table.{numberOf}
-use Rattle.limits.specs.Answers.{bits}
+use Rattle.selection.specs.Selection.{bits}
 use Rattle.closing.specs.Settle.{needed, markOf, claimMarkOf}
 use Rattle.accept.specs.declared.Verdict.{Verdict}
 use Rattle.accept.specs.declared.Verdict.the-variants.{Accepted, Refused}

@@ -1,5 +1,4 @@
 -- How a sheet is judged, group by group and row by row.
---   nodes                  a cell for each group of both sides, and one for each root
 --   mostProduct            no limit × mark is over it: 2 ^ 48
 --   Sheeted s l sheet      a sound file with two kinds of claims, and a sheet that is long enough
 --   Judgeable s l ch sheet     the same with a choice of 0s and 1s
@@ -12,7 +11,7 @@ use mathlib.Core.Path.{_≡_}
 use mathlib.Core.List.{List}
 use Prim.Native.Nat.{ℕ, _+_, _*_, min, _≤_, _<_}
 use lib.ListN.{length, getD}
-use Rattle.theory.specs.Bounds.{maxGroups, maxLimit, cellBound}
+use Rattle.theory.specs.Bounds.{maxLimit, cellBound}
 use Rattle.theory.specs.Sum.{sum}
 use Rattle.theory.specs.Chain.{path}
 use Rattle.theory.specs.Matroid.{row}
@@ -20,11 +19,9 @@ use Rattle.claimfile.specs.Day.{groupsOf, parentOf, limitOf, networkOf}
 use Rattle.claimfile.specs.File.{firstTerms}
 use Rattle.claimfile.specs.Sound.{Sound, Kinds}
 use Rattle.claimfile.specs.declared.Layout.{Layout}
-use Rattle.limits.specs.Ready.{Ready}
+use Rattle.instance.specs.Meaning.{nodes}
+use Rattle.sides.specs.Ready.{Ready}
 use Rattle.closing.specs.Settle.{needed, markOf}
-
-abbrev pub nodes : ℕ
-nodes = 2 * maxGroups + 2
 
 abbrev pub mostProduct : ℕ
 mostProduct = (maxLimit + 1) * cellBound

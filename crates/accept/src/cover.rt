@@ -9,17 +9,18 @@ ghost use lib.ListN.{length};
 ghost use Rattle.theory.specs.Bounds.{maxLimit};
 ghost use Rattle.theory.specs.Matroid.{row};
 ghost use Rattle.claimfile.specs.Day.{groupsOf, instanceOf};
+ghost use Rattle.instance.specs.Meaning.{nodes};
 ghost use Rattle.accept.specs.Accept.{covers, covered};
-ghost use Rattle.accept.specs.Judge.{nodes, Sheeted, Zeros, Priced};
+ghost use Rattle.accept.specs.Judge.{Sheeted, Zeros, Priced};
 use super::cell;
 use super::long;
-use super::node_at;
 use super::wide;
 use claimfile::Layout;
 use claimfile::claim_of;
-use tables::write::card_node;
-use tables::write::power;
-use tables::write::shop_node;
+use instance::card_node;
+use instance::node_at;
+use instance::power;
+use instance::shop_node;
 
 // The greatest price that a cell holds. It is more than any claim weighs.
 const PRICE: u64 = 65535;
@@ -71,10 +72,11 @@ fn covers_row(file: &[u8], layout: Layout, c: usize, sheet: &[u32], prices: &[u1
     ensures { λ r. ⌜ r ≡ covers (instanceOf (now (file .entry)) layout) (now (sheet .entry)) c ⌝ }
 {
     let claim = claim_of(file, layout, c);
-    let card = card_node(file, layout, claim);
+    let groups = layout.cards + layout.shops;
+    let card = card_node(file, layout, claim, groups);
     let shop = shop_node(layout, claim);
     let price = price_of(card, shop, prices);
-    let own = layout.cards + layout.shops + c;
+    let own = groups + c;
     long(power(layout.rows, claim.kind)) <= wide(sheet[own]) + price
 }
 

@@ -13,35 +13,30 @@ ghost use Prim.Native.Nat.{_<_, _≤_};
 ghost use Rattle.theory.specs.Bounds.{maxLimit, cellBound};
 ghost use Rattle.theory.specs.Matroid.{row};
 ghost use Rattle.theory.specs.Network.{fitsBoth};
-ghost use Rattle.claimfile.specs.Day.{groupsOf, parentOf, writtenOf, limitOf, networkOf, instanceOf};
+ghost use Rattle.claimfile.specs.Day.{limitOf, networkOf, instanceOf};
 ghost use Rattle.claimfile.specs.File.{firstTerms};
 ghost use Rattle.claimfile.specs.Sound.{Sound, Kinds};
 ghost use Rattle.closing.specs.Close.{Countable};
 ghost use Rattle.claimfile.specs.declared.Reading.the-variants.{Accepted};
-ghost use Rattle.limits.specs.Ready.{Ready};
+ghost use Rattle.sides.specs.Ready.{Ready};
 ghost use Rattle.accept.specs.Accept.{judged, weightKept, verdictBy, verdictNumber, Judges};
-ghost use Rattle.accept.specs.Judge.{nodes, Judgeable};
+ghost use Rattle.accept.specs.Judge.{Judgeable};
 use claimfile::DAYS;
 use claimfile::Form;
-use claimfile::Group;
 use claimfile::Layout;
 use claimfile::Reading;
-use claimfile::group_of;
 use claimfile::read;
-use closing::count_rows;
 use closing::marks_of;
+use closing::totals_of;
 use cover::is_covered;
-use limits::all_bits;
-use limits::rank_on;
+use instance::CARD_SIDE;
+use instance::SHOP_SIDE;
 use refusal::Reason;
 use refusal::number;
-use tables::write::above;
+use selection::all_bits;
+use sides::rank_on;
 use theory::MAX_GROUPS;
 use total::total_of;
-
-const CARD_SIDE: usize = 0;
-
-const SHOP_SIDE: usize = 1;
 
 // A cell for each group of both sides, and one for each root.
 const NODES: usize = 2 * MAX_GROUPS + 2;
@@ -71,37 +66,13 @@ fn cell(x: u16) -> u64
     x as u64
 }
 
-// The group at a node: the node above it, and the limit in its record.
-fn node_at(file: &[u8], layout: Layout, v: usize) -> Group
-    requires { ⌜ (Sound (now file) layout) × (v < groupsOf layout) ⌝ }
-    ensures { λ r. ⌜ (r .parent ≡ parentOf (now (file .entry)) layout v) × (r .limit ≡ writtenOf (now (file .entry)) layout v) × (r .parent < nodes) × (r .limit < 65536) ⌝ }
-{
-    let cards = layout.cards;
-    let groups = cards + layout.shops;
-    if v < cards {
-        let card = group_of(file, layout, CARD_SIDE, v);
-        return Group {
-            parent: above(v, card.parent, 0, groups),
-            limit: card.limit,
-        };
-    }
-    let own = v - cards;
-    let shop = group_of(file, layout, SHOP_SIDE, own);
-    Group {
-        parent: above(own, shop.parent, cards, groups + 1),
-        limit: shop.limit,
-    }
-}
-
 // The weight of the kept rows.
 fn weight_kept(file: &[u8], layout: Layout, choice: &[u8]) -> u64
     requires { ⌜ Countable firstTerms (now file) layout (now choice) ⌝ }
     ensures { λ r. ⌜ r ≡ weightKept (instanceOf (now (file .entry)) layout) (now (choice .entry)) ⌝ }
 {
-    let counts = count_rows(file, layout, choice);
-    let earned = counts.earned;
-    let rows = layout.rows;
-    long(rows * earned + counts.kept)
+    let totals = totals_of(file, layout, choice);
+    long(totals.total)
 }
 
 // Whether a choice fits both sides.

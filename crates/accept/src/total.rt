@@ -7,32 +7,29 @@ ghost use mathlib.Core.Path.{_≡_};
 ghost use Prim.Native.Nat.{_+_, _*_, _<_, _≤_};
 ghost use lib.ListN.{length};
 ghost use Rattle.theory.specs.Bounds.{maxGroups, maxRows, cellBound};
-ghost use Rattle.theory.specs.Lowered.{lesser};
+ghost use Rattle.theory.specs.Lowered as lowered;
 ghost use Rattle.theory.specs.Matroid.{row};
 ghost use Rattle.claimfile.specs.Day.{groupsOf, limitOf, instanceOf};
 ghost use Rattle.claimfile.specs.Sound.{Sound};
+ghost use Rattle.instance.specs.Meaning.{nodes};
 ghost use Rattle.accept.specs.Accept.{sheetTotal};
-ghost use Rattle.accept.specs.Judge.{nodes, mostProduct, Sheeted, Lowers, groupTotal, rowTotal};
+ghost use Rattle.accept.specs.Judge.{mostProduct, Sheeted, Lowers, groupTotal, rowTotal};
 use super::cell;
 use super::long;
-use super::node_at;
 use super::wide;
 use claimfile::Layout;
+use instance::lesser;
+use instance::node_at;
 
 // The limit of a group under node `up`: the written one, lowered to that of `up` where `up` is a group with less.
-fn lower(groups: usize, up: usize, written: usize, limits: &[u16]) -> u64
+fn lower(groups: usize, up: usize, written: usize, limits: &[u16]) -> usize
     requires { ⌜ groups ≤ length (now limits) ⌝ }
-    ensures { λ r. ⌜ (r ≡ lesser groups up written (row (now (limits .entry)) up)) × (r ≤ written) ⌝ }
+    ensures { λ r. ⌜ (r ≡ lowered.lesser groups up written (row (now (limits .entry)) up)) × (r ≤ written) ⌝ }
 {
-    let own = long(written);
     if groups <= up {
-        return own;
+        return written;
     }
-    let most = cell(limits[up]);
-    if most < own {
-        return most;
-    }
-    own
+    lesser(written, cell(limits[up]) as usize)
 }
 
 // The limit of group `v`, when those of the groups before it are there.
@@ -48,7 +45,7 @@ fn lower_group(file: &[u8], layout: Layout, v: usize, limits: &mut [u16]) -> u64
         limits,
     );
     limits[v] = limit as u16;
-    limit
+    long(limit)
 }
 
 // A group's limit × its mark.

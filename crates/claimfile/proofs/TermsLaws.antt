@@ -7,7 +7,6 @@
 --   kinds-of               an accepted file whose claims are of K kinds is of K kinds in its bytes
 --   first-second           a new file in the week layout that is accepted under the first terms is accepted under the second, with the
 --                          same layout: so it holds the same day
---   second-first           one that is accepted under the second terms and has only kinds 0 and 1 is accepted under the first
 --   second-sound second-kinds    what holds of a file that is accepted under the second terms
 use mathlib.Core.Path.{_≡_, refl, sym, ap, _∙_, subst}
 use mathlib.Core.Logic.{_↔_}
@@ -115,9 +114,6 @@ module _ (d : ℕ) (s : List ℕ) (l : Layout) where
       sym (either-reading d s (kinds-of firstTerms firstTerms (newWeek d) s l is (accepted-kinds (newWeek d) s l is))) ∙ is
 
   module _ (is : readingKinds d s ≡ Accepted l) where
-    pub second-first : Kinds firstTerms s l → reading (newWeek d) s ≡ Accepted l
-    second-first two = either-reading d s (kinds-of firstTerms secondTerms (newWeek d) s l is two) ∙ is
-
     all-second : Accords secondTerms (newWeek d) s l
     all-second = accords-in secondTerms (newWeek d) s l is
 

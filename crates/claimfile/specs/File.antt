@@ -1,6 +1,7 @@
 -- The claim file of document 01, "The claim file" and "Turned-away files": what any list of bytes is, accepted or refused.
---   newWeek d, storedWeek d, newOld d, storedOld d     how a call takes its file for day d: in the week layout or in the old one, new or
---                          stored before limits were judged
+--   formOf w s d           how a call takes its file for day d: in the week layout or in the old one (w), stored before limits were
+--                          judged or new (s)
+--   newWeek d, storedWeek d, newOld d, storedOld d     the four sorts of files by name
 --   asStored f, forDay f d the same layout and day, as a stored file; the same sort of file for day d
 --   top                    the parent of a group at the top, which is the greatest number of 16 bits
 --   days                   how many days a week has, numbered from 0
@@ -58,23 +59,26 @@ use Rattle.claimfile.specs.declared.Reading.the-variants.{Accepted, Refu
 use Rattle.claimfile.specs.declared.Group.{Group}
 use Rattle.claimfile.specs.declared.Claim.{Claim}
 
+abbrev pub formOf : Bool → Bool → ℕ → Form
+formOf w s d = record { week = w; stored = s; day = d }
+
 abbrev pub newWeek : ℕ → Form
-newWeek d = record { week = true; stored = false; day = d }
+newWeek d = formOf true false d
 
 abbrev pub storedWeek : ℕ → Form
-storedWeek d = record { week = true; stored = true; day = d }
+storedWeek d = formOf true true d
 
 abbrev pub newOld : ℕ → Form
-newOld d = record { week = false; stored = false; day = d }
+newOld d = formOf false false d
 
 abbrev pub storedOld : ℕ → Form
-storedOld d = record { week = false; stored = true; day = d }
+storedOld d = formOf false true d
 
 abbrev pub asStored : Form → Form
-asStored f = record { week = f .week; stored = true; day = f .day }
+asStored f = formOf (f .week) true (f .day)
 
 abbrev pub forDay : Form → ℕ → Form
-forDay f d = record { week = f .week; stored = f .stored; day = d }
+forDay f d = formOf (f .week) (f .stored) d
 
 -- "Kind 0 is ordinary, 1 is earned."
 abbrev pub firstTerms : ℕ

@@ -2,7 +2,7 @@
 -- document 01's words, are the case of two kinds, and the second that of four.
 --   closed-in              what closing leaves in the lent parts of the buffers, said of the whole buffers
 --   parts-in               the same of parts whose lengths are the needed ones
---   best-counts best-all sum-worth best-sum    what is answered of a closed day, by its best choice
+--   best-count best-all best-sum   what a choice comes to that agrees with the best one, by the best one
 --   closes-in in-closes    a closing under the first terms is one with two kinds, and the other way round
 --   closed-two             what closing leaves under the first terms, with two kinds
 use mathlib.Core.Path.{_≡_, refl, sym, ap, _∙_, subst}
@@ -11,7 +11,6 @@ use Prim.Native.Nat.{ℕ, zero, suc, _+_, _*_, _-_, _^_, _<_}
 use native.Mathlib.Omega.{arith}
 use lib.ListN.{length, take, drop}
 use lib.Seq.{length-take-le}
-use Rattle.theory.specs.Sum.{sum}
 use Rattle.theory.specs.Incidence.{size, worth}
 use Rattle.theory.specs.Matroid.{row}
 use Rattle.theory.specs.Network.{Instance}
@@ -20,15 +19,15 @@ use Rattle.theory.specs.Best.{Agree}
 use Rattle.theory.specs.Sheet.{Certified}
 use Rattle.theory.proofs.SumLaws.{sum-cong}
 use Rattle.theory.proofs.FirstLaws.{agree-sym, agree-trans}
-use Rattle.theory.proofs.PriorityLaws.{kept-total}
 use Rattle.theory.proofs.BestLaws.{kept-agree, two-kinds}
 use Rattle.theory.proofs.LevelLaws.{certified-cong}
 use Rattle.theory.proofs.ChoiceLaws.{only-choice}
-use Rattle.tables.proofs.WriteLaws.{power-one}
+use Rattle.instance.proofs.RowLaws.{power-one}
 use Rattle.closing.specs.declared.Totals.{Totals}
 use Rattle.closing.specs.Settle.{needed, scratchFor, Enough, bestRowIn, markOf, claimMarkOf, Closes}
 use Rattle.closing.specs.Close.{SettlementIn, ClosedBy, ClosedIn}
 use Rattle.closing.specs.ClosesIn.{firstCounts, ClosesIn}
+use Rattle.closing.proofs.CountLaws.{two-sum}
 use Rattle.closing.proofs.PartLaws.{front-at, front-rest}
 
 --------------------------------------------------------------------------------
@@ -113,22 +112,17 @@ parts-in K i ch sheet t m n e f kinds ch′ sheet′ t′ choices sheets cells c
 --------------------------------------------------------------------------------
 -- What is answered, by the best choice
 
-module _
-    (K : ℕ) (i : Instance) (ch sheet t ch′ sheet′ t′ : List ℕ) (count : ℕ → ℕ) (all sum : ℕ)
-    (C : ClosesIn K i ch sheet t ch′ sheet′ t′ count all sum)
-  where
-    pub best-counts : (k : ℕ) → k < K → count k ≡ kept (i .net .rows) (i .kind) (bestRowIn K i) k
-    best-counts k h = C .counts k h ∙ ap (λ f. f k) (kept-agree (i .net .rows) (i .kind) (C .best))
+module _ (K : ℕ) (i : Instance) (X : ℕ → ℕ) (best : Agree (i .net .rows) X (bestRowIn K i)) where
+  pub best-count : (k : ℕ) → kept (i .net .rows) (i .kind) X k ≡ kept (i .net .rows) (i .kind) (bestRowIn K i) k
+  best-count k = ap (λ f. f k) (kept-agree (i .net .rows) (i .kind) best)
 
-    pub best-all : all ≡ size (i .net .rows) (bestRowIn K i)
-    best-all = C .kept ∙ sum-cong (i .net .rows) (C .best)
+  pub best-all : size (i .net .rows) X ≡ size (i .net .rows) (bestRowIn K i)
+  best-all = sum-cong (i .net .rows) best
 
-    pub sum-worth : sum ≡ worth (i .net .rows) (weightOf (i .net .rows) (i .kind)) (row ch′)
-    sum-worth = C .total ∙ C .certified .equal
-
-    pub best-sum : sum ≡ worth (i .net .rows) (weightOf (i .net .rows) (i .kind)) (bestRowIn K i)
-    best-sum =
-        sum-worth ∙ sum-cong (i .net .rows) (λ c h. ap (λ (x : ℕ). x * weightOf (i .net .rows) (i .kind) c) (C .best c h))
+  pub best-sum :
+      worth (i .net .rows) (weightOf (i .net .rows) (i .kind)) X
+      ≡ worth (i .net .rows) (weightOf (i .net .rows) (i .kind)) (bestRowIn K i)
+  best-sum = sum-cong (i .net .rows) (λ c h. ap (λ (x : ℕ). x * weightOf (i .net .rows) (i .kind) c) (best c h))
 
 --------------------------------------------------------------------------------
 -- The first terms are the case of two kinds
@@ -142,15 +136,10 @@ module _
     abbrev Sheet : ℕ → Type 0
     Sheet top = Certified (i .net) (i .limit) (weightOf N (i .kind)) top (row ch′) (markOf sheet′) (claimMarkOf (i .net) sheet′)
 
-    -- earned and ordinary rows are all rows
-    two-sum : kept N (i .kind) (row ch′) 0 + kept N (i .kind) (row ch′) 1 ≡ size N (row ch′)
-    unfolding sum
-    two-sum = omega (arith, kept-total N 2 (i .kind) two (row ch′))
-
     first-counts :
         a .earned ≡ kept N (i .kind) (row ch′) 1 → a .kept ≡ size N (row ch′) → (k : ℕ) → k < 2 →
         firstCounts a k ≡ kept N (i .kind) (row ch′) k
-    first-counts earned all zero h = omega (arith, two-sum)
+    first-counts earned all zero h = omega (arith, two-sum N (i .kind) two (row ch′))
     first-counts earned all (suc zero) h = earned
     first-counts earned all (suc (suc k)) h = absurd (omega arith)
 
@@ -171,7 +160,11 @@ module _
     pub closed-two : ClosedBy i ch′ sheet′ t′ a → ClosedIn 2 i ch′ sheet′ t′ (firstCounts a) (a .kept) (a .total)
     closed-two C = record {
       settlement = subst (λ (top : ℕ). SettlementIn 2 top i ch′ sheet′) (power-one (N + 1) 1 refl) (C .settlement);
-      counted = record { counts = first-counts (C .earned) (C .kept); kept = C .kept; total = C .total };
+      counted = record {
+        counts = first-counts (C .counted .earned) (C .counted .kept);
+        kept = C .counted .kept;
+        total = C .counted .total;
+      };
       clear = C .clear;
     }
 

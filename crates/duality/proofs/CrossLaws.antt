@@ -90,20 +90,7 @@ cross-turned w d px py qx qy =
     (cross-row w d px py qx qy)
 
 module _ (net : Network) (formed : Formed net) where
-  abbrev G : ℕ
-  G = net .groups
-
-  abbrev parent : ℕ → ℕ
-  parent = net .parent
-
-  abbrev n : ℕ
-  n = net .rows
-
-  abbrev a : ℕ → ℕ
-  a = net .card
-
-  abbrev b : ℕ → ℕ
-  b = net .shop
+  open Network net using (groups as G, parent, rows as n, card as a, shop as b)
 
   abbrev side : ℕ → ℕ
   side = sideOf net

@@ -50,14 +50,7 @@ heavy-sum e K N X =
     ∙ ap (λ s. s + sum N X) (sum-mul-left N K (λ c. X c * e c))
 
 module _ (net : Network) (formed : Formed net) (limit e : ℕ → ℕ) (bit : (c : ℕ) → c < net .rows → e c ≤ 1) where
-  abbrev n : ℕ
-  n = net .rows
-
-  abbrev a : ℕ → ℕ
-  a = net .card
-
-  abbrev b : ℕ → ℕ
-  b = net .shop
+  open Network net using (rows as n, card as a, shop as b)
 
   abbrev side : ℕ → ℕ
   side = sideOf net

@@ -25,20 +25,7 @@ use Rattle.duality.proofs.PriceLaws.{card-side, shop-side, count-is, ri
 use Rattle.duality.proofs.HeavyLaws.{near-on, near-off, heavy-sum, best-level, thr-level, times, near-level}
 
 module _ (net : Network) (formed : Formed net) (limit e : ℕ → ℕ) (bit : (c : ℕ) → c < net .rows → e c ≤ 1) where
-  abbrev G : ℕ
-  G = net .groups
-
-  abbrev parent : ℕ → ℕ
-  parent = net .parent
-
-  abbrev n : ℕ
-  n = net .rows
-
-  abbrev a : ℕ → ℕ
-  a = net .card
-
-  abbrev b : ℕ → ℕ
-  b = net .shop
+  open Network net using (groups as G, parent, rows as n, card as a, shop as b)
 
   abbrev side : ℕ → ℕ
   side = sideOf net

@@ -59,20 +59,7 @@ ext-small N x X h k c l =
     ]
 
 module _ (net : Network) (formed : Formed net) where
-  abbrev G : ℕ
-  G = net .groups
-
-  abbrev parent : ℕ → ℕ
-  parent = net .parent
-
-  abbrev n : ℕ
-  n = net .rows
-
-  abbrev a : ℕ → ℕ
-  a = net .card
-
-  abbrev b : ℕ → ℕ
-  b = net .shop
+  open Network net using (groups as G, parent, rows as n, card as a, shop as b)
 
   abbrev side : ℕ → ℕ
   side = sideOf net

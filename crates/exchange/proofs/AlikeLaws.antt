@@ -3,7 +3,7 @@
 --   resized d e            the network e with as many rows as d
 --   codes-lists            networks with as many rows, in which the same lists fit each side
 --   codes-alike            networks that agree
-use mathlib.Core.Path.{_≡_, refl, ap, subst, _∙_}
+use mathlib.Core.Path.{_≡_, refl, ap, subst}
 use Prim.Native.Nat.{ℕ, _*_, _<_}
 use native.Mathlib.Omega.{arith}
 use Rattle.theory.specs.Incidence.{load}

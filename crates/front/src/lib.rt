@@ -8,7 +8,7 @@ ghost use mathlib.Core.Path.{_≡_};
 ghost use Prim.Native.Nat.{_+_, _*_};
 ghost use lib.ListN.{length};
 ghost use Rattle.theory.specs.Bounds.{maxGroups, maxRows};
-ghost use Rattle.claimfile.specs.Written.{lengthFor};
+ghost use Rattle.claimwriter.specs.Written.{lengthFor};
 ghost use Rattle.closing.specs.Settle.{cellsFor};
 ghost use Rattle.printout.specs.Printout.{longestText};
 

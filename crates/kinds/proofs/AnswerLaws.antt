@@ -9,6 +9,7 @@ use Prim.Native.Nat.{ℕ, _≤_, _<_}
 use native.Mathlib.Omega.{arith}
 use lib.ListN.{length, take, drop}
 use borrow.Author.Tests.{lt-leb, le-leb}
+use Rattle.theory.specs.Matroid.{row}
 use Rattle.theory.specs.Network.{Instance}
 use Rattle.theory.specs.Priority.{kept}
 use Rattle.claimfile.specs.declared.Layout.{Layout}
@@ -25,9 +26,9 @@ use Rattle.kinds.specs.declared.SettledKinds.the-variants.{Closed, Refus
 use Rattle.closing.specs.Settle.{needed, scratchFor, Enough, Lacks, bestRowIn}
 use Rattle.closing.specs.Close.{ClosedIn}
 use Rattle.closing.specs.ClosesIn.{ClosesIn}
-use Rattle.kinds.specs.Settle.{countOf, toldWith, toldKindsBy, toldKindsOn, toldKindsFor}
+use Rattle.kinds.specs.Settle.{countOf, toldWith, settledKindsNumbers, toldKindsOn, toldKindsFor}
 use Rattle.kinds.specs.Settle.{SettlesKindsOn, SettlesKinds}
-use Rattle.closing.proofs.ClosesLaws.{parts-in, best-counts, best-all, best-sum}
+use Rattle.closing.proofs.ClosesLaws.{best-count, best-all, best-sum, parts-in}
 use Rattle.closing.proofs.AnswerLaws.{not-enough, lacks-true, lacks-false}
 
 --------------------------------------------------------------------------------
@@ -39,25 +40,25 @@ told-same f g a b x y same p q =
     rw (same 0 (omega arith), same 1 (omega arith), same 2 (omega arith), same 3 (omega arith), p, q)
 
 module _ (i : Instance) (d : ℕ) (ch sheet t : List ℕ) where
-  told-short : Lacks (i .net) ch sheet t → toldKindsBy (Refused Short) ≡ toldKindsOn i d ch sheet t
+  told-short : Lacks (i .net) ch sheet t → settledKindsNumbers (Refused Short) ≡ toldKindsOn i d ch sheet t
   unfolding toldKindsOn
   told-short h = rw (lacks-true (i .net) ch sheet t h)
 
-  told-dayless : Enough (i .net) ch sheet t → days ≤ d → toldKindsBy (Refused Day) ≡ toldKindsOn i d ch sheet t
+  told-dayless : Enough (i .net) ch sheet t → days ≤ d → settledKindsNumbers (Refused Day) ≡ toldKindsOn i d ch sheet t
   unfolding toldKindsOn
   told-dayless enough over = rw (lacks-false (i .net) ch sheet t enough, le-leb _ _ over)
 
   told-closed :
       (ch′ sheet′ t′ : List ℕ) (a : KindTotals) →
       ClosesIn secondTerms i ch sheet t ch′ sheet′ t′ (countOf a) (a .kept) (a .total) → Enough (i .net) ch sheet t → d < days →
-      toldKindsBy (Closed a) ≡ toldKindsOn i d ch sheet t
+      settledKindsNumbers (Closed a) ≡ toldKindsOn i d ch sheet t
   unfolding toldKindsOn
   told-closed ch′ sheet′ t′ a C enough known =
       rw (lacks-false (i .net) ch sheet t enough, lt-leb _ _ known)
       (told-same (countOf a) (kept (i .net .rows) (i .kind) (bestRowIn secondTerms i)) _ _ _ _
-      (best-counts secondTerms i ch sheet t ch′ sheet′ t′ (countOf a) (a .kept) (a .total) C)
-      (best-all secondTerms i ch sheet t ch′ sheet′ t′ (countOf a) (a .kept) (a .total) C)
-      (best-sum secondTerms i ch sheet t ch′ sheet′ t′ (countOf a) (a .kept) (a .total) C))
+      (λ k h. C .counts k h ∙ best-count secondTerms i (row ch′) (C .best) k)
+      (C .kept ∙ best-all secondTerms i (row ch′) (C .best))
+      (C .total ∙ C .certified .equal ∙ best-sum secondTerms i (row ch′) (C .best)))
 
   ------------------------------------------------------------------------------
   -- The answers for a day
@@ -67,7 +68,7 @@ module _ (i : Instance) (d : ℕ) (ch sheet t : List ℕ) where
     short = λ h. (e, record { choices = refl; sheets = refl; cells = refl });
     dayless = λ enough over. not-enough (i .net) ch sheet t enough short;
     closed = λ enough known. not-enough (i .net) ch sheet t enough short;
-    told = ap toldKindsBy e ∙ told-short short;
+    told = ap settledKindsNumbers e ∙ told-short short;
   }
 
   pub kinds-dayless :
@@ -76,7 +77,7 @@ module _ (i : Instance) (d : ℕ) (ch sheet t : List ℕ) where
     short = λ h. not-enough (i .net) ch sheet t enough h;
     dayless = λ h k. (e, record { choices = refl; sheets = refl; cells = refl });
     closed = λ h known. absurd (omega arith);
-    told = ap toldKindsBy e ∙ told-dayless enough over;
+    told = ap settledKindsNumbers e ∙ told-dayless enough over;
   }
 
   kinds-closes :
@@ -116,7 +117,7 @@ module _ (d : ℕ) (s ch sheet t : List ℕ) where
       record { choices = refl; sheets = refl; cells = refl },
     );
     settled = λ l p. not-both (readingKinds d s) l why p is;
-    told = ap toldKindsBy e ∙ ap (λ (x : Reading). toldKindsFor s x ch sheet t) (sym is);
+    told = ap settledKindsNumbers e ∙ ap (λ (x : Reading). toldKindsFor s x ch sheet t) (sym is);
   }
 
   pub kinds-accepted :

@@ -1,49 +1,24 @@
--- Laws of counting the kept rows by kind, and of what four counts weigh.
---   kept-none              no row is counted
---   kept-turn              what a row adds to the count of a kind
+-- Laws of the kept counts by kind, and of what four counts weigh.
 --   product-most           a count times a weight is small
 --   four-worth             with four kinds, the kept counts give what the kept rows weigh
 --   counted-kinds          the counts of all kinds, their sum and their weight are those of the choice
-use mathlib.Core.Path.{_≡_, refl, ap}
-use mathlib.Core.Bool.{_&&_}
+use mathlib.Core.Path.{_≡_, ap}
 use mathlib.Core.List.{List}
 use Prim.Native.Nat.{ℕ, zero, suc, _+_, _*_, _^_, _≤_, _<_}
 use native.Mathlib.Nat.{pow-zero, mul-le-mul}
-use native.Mathlib.Decide.{ℕ-discrete}
 use native.Mathlib.Omega.{arith}
-use lib.Dec.{eqb}
-use borrow.Author.Tests.{eq-eqb, ne-eqb}
-use Rattle.theory.specs.Sum.{pick, sum, same}
+use Rattle.theory.specs.Sum.{sum}
 use Rattle.theory.specs.Incidence.{size, worth}
 use Rattle.theory.specs.Matroid.{row}
 use Rattle.theory.specs.Bounds.{maxRows}
 use Rattle.theory.specs.Network.{Instance}
 use Rattle.theory.specs.Priority.{kept, weightOf}
-use Rattle.theory.proofs.SumLaws.{same-eq, same-ne}
 use Rattle.theory.proofs.PriorityLaws.{value, worth-kept, kept-total}
 use Rattle.claimfile.specs.File.{secondTerms}
-use Rattle.tables.specs.Tables.{heaviest}
+use Rattle.instance.specs.Meaning.{heaviest}
 use Rattle.kinds.specs.declared.KindTotals.{KindTotals}
 use Rattle.closing.specs.Close.{CountedIn}
 use Rattle.kinds.specs.Settle.{countOf}
-
-pub kept-none : (kind X : ℕ → ℕ) (k : ℕ) → kept 0 kind X k ≡ 0
-unfolding kept sum
-kept-none kind X k = refl
-
--- x is the row's byte, and y its kind
-pub kept-turn : (x y k : ℕ) → x ≤ 1 → pick (eqb x 1 && eqb y k) 1 0 ≡ x * same y k
-kept-turn x y k h =
-    elim (ℕ-discrete x 1) [
-      | yes e ↦
-          elim (ℕ-discrete y k) [
-            | yes f ↦ rw (eq-eqb x 1 e, eq-eqb y k f, same-eq y k f) (omega arith)
-            | no n ↦ rw (eq-eqb x 1 e, ne-eqb y k n, same-ne y k n) (omega arith)
-          ]
-      | no n ↦
-          let z : x ≡ 0 = omega arith in
-          rw (ne-eqb x 1 n) (omega (arith, ap (λ (m : ℕ). m * same y k) z))
-    ]
 
 pub product-most : (n w : ℕ) → n ≤ maxRows → w ≤ heaviest → n * w ≤ 69122916864
 product-most n w h k = omega (arith, mul-le-mul {n₁ = n} {m₁ = w} {n₂ = maxRows} {m₂ = heaviest} h k)

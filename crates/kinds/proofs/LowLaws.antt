@@ -11,8 +11,8 @@ use native.Mathlib.Omega.{arith}
 use lib.ListN.{length, getD, set, length-set, List·getD-eq-default}
 use lib.Seq.{getD-set-same, getD-set-other}
 use Rattle.claimfile.specs.declared.Layout.{Layout}
-use Rattle.residual.specs.Memory.{low, lows}
-use Rattle.residual.proofs.MemoryLaws.{lows-length, lows-at}
+use Rattle.scratch.specs.Memory.{low, lows}
+use Rattle.scratch.proofs.MemoryLaws.{lows-length, lows-at}
 use Rattle.closing.specs.Close.{Lent}
 
 pub record Keeping (b b′ : List ℕ) (n : ℕ) : Type 0 where

@@ -2,8 +2,8 @@
 -- is an instance i, as in closing (specs/Settle.antt). Only `SettlesKinds` and `toldKindsFor` speak of the file's reading.
 --   countOf a k            the kept count of kind k in the answer a
 --   toldWith n count all sum   a number with these counts and this total
---   ToldKinds, toldKindsBy r   document 01's number and the values for each case of the answer r; the number is 0 where the file is
---                          closed
+--   settledKindsNumbers r  document 01's number and the values for each case of the answer r, as C takes them; the number is 0 where
+--                          the file is closed
 --   toldKindsOn i d ch sheet t what is told of a day with these buffers, where the call names day d: 8, then 12, else the counts and the
 --                          weight of its best choice
 --   toldKindsFor s x ch sheet t    what is told of a file s with the reading x
@@ -30,6 +30,7 @@ use Rattle.claimfile.specs.File.{secondTerms, days, readingKinds}
 use Rattle.claimfile.specs.Day.{instanceOf}
 use Rattle.refusal.specs.declared.Reason.the-variants.{File, Short, Day}
 use Rattle.refusal.specs.Table as table
+use Rattle.answers.specs.declared.SettleKindsAnswer.{SettleKindsAnswer}
 use Rattle.kinds.specs.declared.KindTotals.{KindTotals}
 use Rattle.kinds.specs.declared.SettledKinds.{SettledKinds}
 use Rattle.kinds.specs.declared.SettledKinds.the-variants.{Closed, Refused}
@@ -42,35 +43,26 @@ countOf a (suc zero) = a .kind1
 countOf a (suc (suc zero)) = a .kind2
 countOf a (suc (suc (suc k))) = a .kind3
 
-pub record ToldKinds : Type 0 where
-  pub number : ℕ
-  pub kind0 : ℕ
-  pub kind1 : ℕ
-  pub kind2 : ℕ
-  pub kind3 : ℕ
-  pub kept : ℕ
-  pub total : ℕ
-
-abbrev pub toldWith : ℕ → (ℕ → ℕ) → ℕ → ℕ → ToldKinds
+abbrev pub toldWith : ℕ → (ℕ → ℕ) → ℕ → ℕ → SettleKindsAnswer
 toldWith n count all sum =
-    record { number = n; kind0 = count 0; kind1 = count 1; kind2 = count 2; kind3 = count 3; kept = all; total = sum }
+    record { refusal = n; kind0 = count 0; kind1 = count 1; kind2 = count 2; kind3 = count 3; kept = all; total = sum }
 
-abbrev pub toldKindsBy : SettledKinds → ToldKinds
-toldKindsBy (Closed a) = toldWith 0 (countOf a) (a .kept) (a .total)
-toldKindsBy (Refused why) = toldWith (table.numberOf why) (λ k. 0) 0 0
+abbrev pub settledKindsNumbers : SettledKinds → SettleKindsAnswer
+settledKindsNumbers (Closed a) = toldWith 0 (countOf a) (a .kept) (a .total)
+settledKindsNumbers (Refused why) = toldWith (table.numberOf why) (λ k. 0) 0 0
 
-unfoldable pub toldKindsOn : Instance → ℕ → List ℕ → List ℕ → List ℕ → ToldKinds
+unfoldable pub toldKindsOn : Instance → ℕ → List ℕ → List ℕ → List ℕ → SettleKindsAnswer
 toldKindsOn i d ch sheet t =
     pick (lacks (i .net) ch sheet t)
-    (toldKindsBy (Refused Short))
+    (settledKindsNumbers (Refused Short))
     (pick (leb days d)
-    (toldKindsBy (Refused Day))
+    (settledKindsNumbers (Refused Day))
     (toldWith 0 (kept (i .net .rows) (i .kind) (bestRowIn secondTerms i)) (size (i .net .rows) (bestRowIn secondTerms i))
     (worth (i .net .rows) (weightOf (i .net .rows) (i .kind)) (bestRowIn secondTerms i))))
 
 -- the file's own faults come first
-abbrev pub toldKindsFor : List ℕ → Reading → List ℕ → List ℕ → List ℕ → ToldKinds
-toldKindsFor s (reading-is.Refused why) ch sheet t = toldKindsBy (Refused (File why))
+abbrev pub toldKindsFor : List ℕ → Reading → List ℕ → List ℕ → List ℕ → SettleKindsAnswer
+toldKindsFor s (reading-is.Refused why) ch sheet t = settledKindsNumbers (Refused (File why))
 toldKindsFor s (reading-is.Accepted l) ch sheet t = toldKindsOn (instanceOf s l) (l .day) ch sheet t
 
 pub record SettlesKindsOn (i : Instance) (d : ℕ) (ch sheet t ch′ sheet′ t′ : List ℕ) (r : SettledKinds) : Type 0 where
@@ -79,7 +71,7 @@ pub record SettlesKindsOn (i : Instance) (d : ℕ) (ch sheet t ch′ sheet′ t�
   pub closed :
       Enough (i .net) ch sheet t → d < days →
       (a : KindTotals) × (r ≡ Closed a) × ClosesIn secondTerms i ch sheet t ch′ sheet′ t′ (countOf a) (a .kept) (a .total)
-  pub told : toldKindsBy r ≡ toldKindsOn i d ch sheet t
+  pub told : settledKindsNumbers r ≡ toldKindsOn i d ch sheet t
 
 pub record SettlesKinds (d : ℕ) (s ch sheet t ch′ sheet′ t′ : List ℕ) (r : SettledKinds) : Type 0 where
   pub refused :
@@ -88,4 +80,4 @@ pub record SettlesKinds (d : ℕ) (s ch sheet t ch′ sheet′ t′ : List ℕ) 
   pub settled :
       (l : Layout) → readingKinds d s ≡ reading-is.Accepted l →
       SettlesKindsOn (instanceOf s l) (l .day) ch sheet t ch′ sheet′ t′ r
-  pub told : toldKindsBy r ≡ toldKindsFor s (readingKinds d s) ch sheet t
+  pub told : settledKindsNumbers r ≡ toldKindsFor s (readingKinds d s) ch sheet t

@@ -6,27 +6,24 @@
 ghost use mathlib.Core.Path.{_≡_};
 ghost use Prim.Native.Nat.{_+_, _*_, _^_, _≤_, _<_};
 ghost use Rattle.theory.specs.Bounds.{maxRows};
-ghost use Rattle.theory.specs.Sum.{pick};
-ghost use Rattle.theory.specs.Matroid.{row};
-ghost use Rattle.theory.specs.Priority.{kept};
 ghost use Rattle.claimfile.specs.File.{secondTerms};
-ghost use Rattle.claimfile.specs.Day.{kindOf, instanceOf};
+ghost use Rattle.claimfile.specs.Day.{instanceOf};
 ghost use Rattle.claimfile.specs.Sound.{Sound, Kinds};
-ghost use Rattle.residual.specs.Memory.{lows};
+ghost use Rattle.scratch.specs.Memory.{lows};
 ghost use Rattle.closing.specs.Close.{Countable, Lent, SettlementIn, CountedIn, ClosedIn};
 ghost use Rattle.kinds.specs.Settle.{countOf, SettlesKindsOn, SettlesKinds};
 use claimfile::DAYS;
 use claimfile::Layout;
 use claimfile::Reading;
-use claimfile::claim_of;
 use claimfile::read_kinds;
 use closing::marks_of;
 use closing::scratch_of;
+use instance::power;
 use refusal::Reason;
-use residual::clear::clear_wide;
-use residual::map::CELL_BOUND;
-use solver::solve::solve;
-use tables::write::power;
+use scratch::cells::CELL_BOUND;
+use scratch::clear::clear_wide;
+use selection::kept_of_kind;
+use solver::solve;
 use tables::write::shape_of_kinds;
 use tables::write::write_tables;
 
@@ -45,32 +42,6 @@ pub enum SettledKinds {
     Refused(Reason),
 }
 
-// 1 where a test holds, else 0.
-fn one(b: bool) -> usize
-    ensures { λ r. ⌜ r ≡ pick b 1 0 ⌝ }
-{
-    if b {
-        return 1;
-    }
-    0
-}
-
-// How many kept rows are of a kind.
-fn count_kind(file: &[u8], layout: Layout, kind: u8, choice: &[u8]) -> usize
-    requires { ⌜ Countable secondTerms (now file) layout (now choice) ⌝ }
-    ensures { λ r. ⌜ (r ≡ kept (layout .rows) (kindOf (now (file .entry)) layout) (row (now (choice .entry))) kind) × (r ≤ layout .rows) ⌝ }
-{
-    let rows = layout.rows;
-    let mut count = 0;
-    let mut c = 0;
-    while c < rows {
-        let claim = claim_of(file, layout, c);
-        count += one((choice[c] == 1) & (claim.kind == kind));
-        c += 1;
-    }
-    count
-}
-
 // What so many rows of each kind weigh, where there are so many rows.
 fn weigh(rows: usize, kind0: usize, kind1: usize, kind2: usize, kind3: usize) -> usize
     requires { ⌜ (rows ≤ maxRows) × (kind0 ≤ maxRows) × (kind1 ≤ maxRows) × (kind2 ≤ maxRows) × (kind3 ≤ maxRows) ⌝ }
@@ -84,10 +55,10 @@ fn count_kinds(file: &[u8], layout: Layout, choice: &[u8]) -> KindTotals
     requires { ⌜ Countable secondTerms (now file) layout (now choice) ⌝ }
     ensures { λ r. ⌜ CountedIn secondTerms (instanceOf (now (file .entry)) layout) (now (choice .entry)) (countOf r) (r .kept) (r .total) ⌝ }
 {
-    let kind0 = count_kind(file, layout, 0, choice);
-    let kind1 = count_kind(file, layout, 1, choice);
-    let kind2 = count_kind(file, layout, 2, choice);
-    let kind3 = count_kind(file, layout, 3, choice);
+    let kind0 = kept_of_kind(file, layout, 0, choice);
+    let kind1 = kept_of_kind(file, layout, 1, choice);
+    let kind2 = kept_of_kind(file, layout, 2, choice);
+    let kind3 = kept_of_kind(file, layout, 3, choice);
     KindTotals {
         kind0,
         kind1,

@@ -1,5 +1,5 @@
 -- Document 02, E9: "Old-layout files, new or stored, .. act as ones with the same limit on seven days." For every accepted file s in a form f, of
--- either layout, its week file is `asWeek s l` (claimfile/specs/Week.antt), taken in the form `weekForm f`: each limit of an old-layout file is
+-- either layout, its week file is `asWeek s l` (claimwriter/specs/Week.antt), taken in the form `weekForm f`: each limit of an old-layout file is
 -- written seven times. Both hold the same day (`week-day`) and the same claims, and every answer is decided by these. Of fits and rank and of
 -- spare places it is `ranked-week` and `spare-week` (limits/proofs/WeekLaws.antt).
 --   settled-across, codes-across   two days that need the same lengths, and that are one where the week has the day, are promised the same
@@ -27,13 +27,13 @@ use Rattle.claimfile.specs.declared.Reading.{Reading}
 use Rattle.claimfile.specs.declared.Reading.the-variants.{Accepted}
 use Rattle.claimfile.specs.File.{days, reading}
 use Rattle.claimfile.specs.Day.{claimOf, networkOf, instanceOf, onDay, limitOf, writtenOf, parentOf, cardNode, shopNode}
-use Rattle.claimfile.specs.Week.{weekForm, asWeek, weekLayout}
+use Rattle.claimwriter.specs.Week.{weekForm, asWeek, weekLayout}
 use Rattle.claimfile.proofs.AcceptedLaws.{one-layout}
-use Rattle.claimfile.proofs.WeekLaws.{week-accepted, week-claim, week-day}
+use Rattle.claimwriter.proofs.WeekLaws.{week-accepted, week-claim, week-day}
 use Rattle.refusal.specs.declared.Reason.the-variants.{Short, Day, Value}
 use Rattle.refusal.specs.declared.Written.{Written}
-use Rattle.refusal.specs.Writing.{turned, written, toldBy}
-use Rattle.limits.specs.Answers.{bits}
+use Rattle.refusal.specs.Writing.{turned, written, writtenNumbers}
+use Rattle.selection.specs.Selection.{bits, isKept, count, keptRows}
 use Rattle.closing.specs.declared.Settled.{Settled}
 use Rattle.closing.specs.Settle.{needed, Lacks, lacks, toldOn, SettlesOn, Settles}
 use Rattle.closing.specs.Settle as closing-settle
@@ -41,7 +41,7 @@ use Rattle.closing.proofs.AnswerLaws.{settles-accepted}
 use Rattle.accept.specs.declared.Verdict.the-variants.{Refused}
 use Rattle.accept.specs.Accept.{judged, verdictBy, verdict}
 use Rattle.codes.specs.Write.{Enough, Leaves, answerFor, Writes}
-use Rattle.slip.specs.Slip.{isKept, count, keptRows, firstLine, rowLine, keptLine, keptLines, slip}
+use Rattle.slip.specs.Slip.{firstLine, rowLine, keptLine, keptLines, slip}
 use Rattle.slip.specs.Write as slip-write
 
 --------------------------------------------------------------------------------
@@ -80,7 +80,7 @@ codes-across :
 codes-across x y v w a b codes u codes′ u′ r here there answers enough day same W =
     record {
       answer = W .answer ∙ answers;
-      told = W .told ∙ ap toldBy answers;
+      told = W .told ∙ ap writtenNumbers answers;
       refused = W .refused;
       written = λ k p lent known.
           let one : b ≡ k = one-layout (reading y w) b k there p in

@@ -1,23 +1,15 @@
 -- What the calls answer (document 01, "Calls and lent memory" and "Turned-away files").
 -- Of an instance i, which is what an accepted file holds:
---   fitsOf i side          the test whether a list of rows fits a side
---   foundOn i sel side     whether a selection fits a side, and its rank there
---   bit b                  1 for yes and 0 for no
---   Told i sel side b n    what these mean: the lists that fit the side are the independent sets of a matroid; b is 1 exactly where
---                          the selection is one of them; n is the size of a largest one within the selection, its rank
---   Finds i sel side f     f is what is found on the side, and means that
 --   SparesOn i sel x n     n is how many further claims like row x would fit beside the selection, and what that means
 -- Of a file, in the form f:
---   bits n sel             whether each of the first n bytes of a selection is 0 or 1
 --   enteredBy sel reading, enteredIn K f s sel  a file with K kinds and a selection: turned away with the file's refusal, then 8, then
 --                          12, then 9, else the file's layout
 --   entered f s sel        the same under the first terms
 --   rankedBy s sel side entry, rankedIn K f s sel side   the answer of fits and rank
 --   ranked f s sel side    the same under the first terms
 --   spareBy s sel x entry, spare f s sel x           the answer of spare places
---   RankedNumbers, SpareNumbers          document 01's number and values of an answer
---   rankedNumbers r, spareNumbers r      these for each case of an answer: the refusal's number and zeros, or 0 with yes (1) or no (0)
---                          and the rank, or 0 with the number of places
+--   rankedNumbers r, spareNumbers r      document 01's number and values for each case of an answer: the refusal's number and zeros,
+--                          or 0 with yes (1) or no (0) and the rank, or 0 with the number of places
 --   AnsweredIn K f s sel side r    r is the answer of fits and rank, in document 01's number and values too; the rank is at most 512.
 --                          Where no refusal is told of an accepted file, the values mean what `Told` says of the day that it holds
 --   Answered f s sel side r    the same under the first terms
@@ -29,26 +21,26 @@
 use Prim.Native.Nat.{ℕ, _≤_}
 use mathlib.Core.Path.{_≡_}
 use mathlib.Core.List.{List}
-use mathlib.Core.Bool.{Bool, true, false}
-use mathlib.Core.Logic.{_↔_}
+use mathlib.Core.Bool.{Bool}
 use lib.ListN.{length}
 use lib.Dec.{ltb, leb, eqb}
 use Rattle.theory.specs.Bounds.{maxRows, maxLimit}
-use Rattle.theory.specs.Sum.{pick, every}
-use Rattle.theory.specs.Incidence.{fits}
-use Rattle.theory.specs.Matroid.{Matroid, Rank, row}
-use Rattle.theory.specs.Search.{rank}
-use Rattle.theory.specs.Network.{Instance, onSide, Independent}
+use Rattle.theory.specs.Sum.{pick}
+use Rattle.theory.specs.Matroid.{row}
+use Rattle.theory.specs.Network.{Instance}
 use Rattle.theory.specs.Spare.{sparePlaces, Spares}
+use Rattle.answers.specs.declared.FitsAndRankAnswer.{FitsAndRankAnswer}
+use Rattle.answers.specs.declared.SparePlacesAnswer.{SparePlacesAnswer}
 use Rattle.claimfile.specs.File.{firstTerms, secondTerms, newWeek, days, readingIn, reading}
 use Rattle.claimfile.specs.Day.{limitOf, networkOf, instanceOf}
 use Rattle.claimfile.specs.declared.Form.{Form}
 use Rattle.claimfile.specs.declared.Layout.{Layout}
 use Rattle.claimfile.specs.declared.Reading.{Reading}
 use Rattle.claimfile.specs.declared.Reading.the-variants as reading-is
+use Rattle.selection.specs.Selection.{bits}
 use Rattle.refusal.specs.declared.Reason.the-variants.{File, Short, Day, Value, Selected}
 use Rattle.refusal.specs.Table.{numberOf}
-use Rattle.limits.specs.declared.Found.{Found}
+use Rattle.sides.specs.Found.{foundOn, bit, Told}
 use Rattle.limits.specs.declared.Entry.{Entry}
 use Rattle.limits.specs.declared.Entry.the-variants.{Entered, Turned}
 use Rattle.limits.specs.declared.Ranked.{Ranked}
@@ -56,36 +48,11 @@ use Rattle.limits.specs.declared.Ranked.the-variants as ranked-is
 use Rattle.limits.specs.declared.Spare.{Spare}
 use Rattle.limits.specs.declared.Spare.the-variants as spare-is
 
-abbrev pub fitsOf : Instance → ℕ → (ℕ → ℕ) → Bool
-fitsOf i side = fits (i .net .rows) (i .net .groups) (onSide (i .net) side) (i .limit)
-
-abbrev pub foundOn : Instance → List ℕ → ℕ → Found
-foundOn i sel side = record {
-  fits = fitsOf i side (row sel);
-  rank = rank (i .net .rows) (fitsOf i side) (row sel);
-}
-
-abbrev pub bit : Bool → ℕ
-bit true = 1
-bit false = 0
-
-pub record Told (i : Instance) (sel : List ℕ) (side b n : ℕ) : Type 0 where
-  pub matroid : Matroid (i .net .rows) (Independent (i .net) (i .limit) side)
-  pub fits : (b ≡ 1) ↔ Independent (i .net) (i .limit) side (row sel)
-  pub rank : Rank (i .net .rows) (Independent (i .net) (i .limit) side) (row sel) n
-
-pub record Finds (i : Instance) (sel : List ℕ) (side : ℕ) (f : Found) : Type 0 where
-  pub is : f ≡ foundOn i sel side
-  pub means : Told i sel side (bit (f .fits)) (f .rank)
-
 abbrev pub SparesOn : Instance → List ℕ → ℕ → ℕ → Type 0
 SparesOn i sel x n = Spares (i .net) (i .limit) (row sel) x n
 
 --------------------------------------------------------------------------------
 -- A file with a selection
-
-unfoldable pub bits : ℕ → List ℕ → Bool
-bits n sel = every n (λ c. leb (row sel c) 1)
 
 abbrev pub enteredBy : List ℕ → Reading → Entry
 enteredBy sel (reading-is.Refused why) = Turned (File why)
@@ -128,29 +95,20 @@ spareBy s sel x (Entered l) =
 unfoldable pub spare : Form → List ℕ → List ℕ → ℕ → Spare
 spare f s sel x = spareBy s sel x (entered f s sel)
 
-pub record RankedNumbers : Type 0 where
-  pub number : ℕ
-  pub fits : ℕ
-  pub rank : ℕ
+abbrev pub rankedNumbers : Ranked → FitsAndRankAnswer
+rankedNumbers (ranked-is.Told b n) = record { refusal = 0; fits = bit b; rank = n }
+rankedNumbers (ranked-is.Refused why) = record { refusal = numberOf why; fits = 0; rank = 0 }
 
-abbrev pub rankedNumbers : Ranked → RankedNumbers
-rankedNumbers (ranked-is.Told b n) = record { number = 0; fits = bit b; rank = n }
-rankedNumbers (ranked-is.Refused why) = record { number = numberOf why; fits = 0; rank = 0 }
-
-pub record SpareNumbers : Type 0 where
-  pub number : ℕ
-  pub places : ℕ
-
-abbrev pub spareNumbers : Spare → SpareNumbers
-spareNumbers (spare-is.Places n) = record { number = 0; places = n }
-spareNumbers (spare-is.Refused why) = record { number = numberOf why; places = 0 }
+abbrev pub spareNumbers : Spare → SparePlacesAnswer
+spareNumbers (spare-is.Places n) = record { refusal = 0; places = n }
+spareNumbers (spare-is.Refused why) = record { refusal = numberOf why; places = 0 }
 
 pub record AnsweredIn (K : ℕ) (f : Form) (s sel : List ℕ) (side : ℕ) (r : Ranked) : Type 0 where
   pub is : r ≡ rankedIn K f s sel side
   pub numbers : rankedNumbers r ≡ rankedNumbers (rankedIn K f s sel side)
   pub most : rankedNumbers r .rank ≤ maxRows
   pub means :
-      (l : Layout) → readingIn K f s ≡ reading-is.Accepted l → rankedNumbers r .number ≡ 0 →
+      (l : Layout) → readingIn K f s ≡ reading-is.Accepted l → rankedNumbers r .refusal ≡ 0 →
       Told (instanceOf s l) sel side (rankedNumbers r .fits) (rankedNumbers r .rank)
 
 abbrev pub Answered : Form → List ℕ → List ℕ → ℕ → Ranked → Type 0
@@ -164,5 +122,5 @@ pub record Spared (f : Form) (s sel : List ℕ) (x : ℕ) (r : Spare) : Type 0 w
   pub numbers : spareNumbers r ≡ spareNumbers (spare f s sel x)
   pub most : spareNumbers r .places ≤ maxLimit
   pub means :
-      (l : Layout) → reading f s ≡ reading-is.Accepted l → spareNumbers r .number ≡ 0 →
+      (l : Layout) → reading f s ≡ reading-is.Accepted l → spareNumbers r .refusal ≡ 0 →
       (row sel x ≡ 0) × SparesOn (instanceOf s l) sel x (spareNumbers r .places)

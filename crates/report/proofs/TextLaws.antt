@@ -4,7 +4,6 @@
 --   rows-length, closed-length, refused-length   how long each text can be
 --   rows-agree, closed-agree   choices that agree at each row give the same text
 --   closed-room            the length of a closed day's text is a 64-bit number
---   closed-some, refused-some   no text is empty
 use mathlib.Core.Path.{_≡_, refl, ap, ap₂}
 use Prim.Native.Nat.{ℕ, zero, suc, _+_, _*_, _^_, _≤_, _<_}
 use mathlib.Core.List.{List, _++_}
@@ -108,11 +107,3 @@ closed-room rows earned kept total kind choice hr he hk ht =
 
 --------------------------------------------------------------------------------
 -- What a caller may take from it: the answer 0 always means that nothing was written. No proof needs it.
-
-pub closed-some : (rows earned kept total : ℕ) (kind choice : ℕ → ℕ) → 0 < length (closedText rows kind choice earned kept total)
-unfolding closedText firstLine
-closed-some rows earned kept total kind choice = simp length-append (omega arith)
-
-pub refused-some : (number : ℕ) → 0 < length (refusedText number)
-unfolding refusedText
-refused-some number = simp length-append (omega arith)

@@ -1,5 +1,4 @@
 -- Laws of the slip and of the call's answer.
-pub mod CountLaws
 pub mod SlipLaws
 pub mod LineLaws
 pub mod WriteLaws

@@ -8,24 +8,24 @@ use mathlib.Core.Path.{_≡_, refl, sym, ap, _∙_, subst}
 use mathlib.Core.Bool.{Bool, true, false, _&&_}
 use mathlib.Core.Logic.{inl, inr, _≢_}
 use mathlib.Core.List.{List, [], _∷_, _++_, append-assoc, append-nil}
-use Prim.Native.Nat.{ℕ, zero, suc, _+_, _*_, _≤_, _<_}
+use Prim.Native.Nat.{ℕ, zero, suc, _+_, _≤_, _<_}
 use native.Mathlib.Numerals.{add-one}
 use native.Mathlib.Omega.{arith}
 use borrow.Author.Tests.{leb-true}
-use lib.ListN.{length, getD, take, length-append}
+use lib.ListN.{length, getD, length-append}
 use lib.Seq.{take-at}
 use lib.Dec.{leb}
-use Rattle.theory.specs.Sum.{pick}
 use Rattle.theory.proofs.TestLaws.{either, and-true}
 use Rattle.text.specs.Text.{ascii, decimal, line, printable, atRight, spread}
 use Rattle.text.proofs.TextLaws.{print-append, print-decimal, print-right, print-spread}
 use Rattle.claimfile.specs.declared.Layout.{Layout}
 use Rattle.claimfile.specs.Day.{namedCard, namedShop}
 use Rattle.claimfile.specs.Sound.{Sound}
-use Rattle.slip.specs.Slip.{isKept, isEarned, count, keptRows, earnedRows, firstLine, kindWord, rowLine, keptLine, keptLines, slip}
+use Rattle.selection.specs.Selection.{isKept, count, keptRows}
+use Rattle.selection.proofs.CountLaws.{count-none, count-next}
+use Rattle.slip.specs.Slip.{isEarned, earnedRows, firstLine, kindWord, rowLine, keptLine, keptLines, slip}
 use Rattle.slip.specs.Lines.{Line, Lines, none, more}
-use Rattle.slip.proofs.CountLaws.{count-none, count-next, count-most}
-use Rattle.slip.proofs.SlipLaws.{first-width, first-length, row-width}
+use Rattle.slip.proofs.SlipLaws.{first-length, row-width}
 
 print-at : (b : List ℕ) → printable b ≡ true → (i : ℕ) → i < length b → (m : List ℕ) → getD (b ++ m) i 0 ≢ 10
 print-at [] p i h m = absurd (omega arith)

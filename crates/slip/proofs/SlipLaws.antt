@@ -18,18 +18,19 @@ use native.Mathlib.Omega.{arith}
 use lib.ListN.{length, length-append}
 use lib.Dec.{eqb}
 use borrow.Author.Tests.{eq-eqb, ne-eqb}
-use Rattle.theory.specs.Sum.{pick, sum}
+use Rattle.theory.specs.Sum.{pick}
 use Rattle.theory.specs.Matroid.{row}
 use Rattle.theory.proofs.TestLaws.{either}
 use Rattle.text.specs.Text.{ascii, decimal, line, blanks, atRight, spread}
-use Rattle.text.proofs.TextLaws.{pick-length, decimal-length, right-length, spread-length}
+use Rattle.text.proofs.TextLaws.{decimal-length, right-length, spread-length}
 use Rattle.claimfile.specs.declared.Layout.{Layout}
 use Rattle.claimfile.specs.declared.Claim.{Claim}
 use Rattle.claimfile.specs.Day.{claimOf, namedCard, namedShop}
 use Rattle.claimfile.specs.Sound.{Sound}
-use Rattle.slip.specs.Slip.{isKept, isEarned, count, keptRows, earnedRows, firstLine, kindWord, rowLine, keptLine, keptLines, slip}
+use Rattle.selection.specs.Selection.{isKept, count, keptRows}
+use Rattle.selection.proofs.CountLaws.{count-none, count-next, count-most}
+use Rattle.slip.specs.Slip.{isEarned, earnedRows, firstLine, kindWord, rowLine, keptLine, keptLines, slip}
 use Rattle.slip.specs.Write.{width, needed}
-use Rattle.slip.proofs.CountLaws.{count-none, count-next, count-most}
 
 pub lines-more : (s : List ℕ) (l : Layout) (c : ℕ) (sel : List ℕ) →
     keptLines s l (c + 1) sel ≡ keptLines s l c sel ++ keptLine s l c sel

@@ -25,7 +25,7 @@ use Rattle.refusal.specs.declared.Written.{Written}
 use Rattle.refusal.specs.declared.Written.the-variants.{Bytes, Refused}
 use Rattle.refusal.specs.Writing.{turned, written}
 use Rattle.refusal.proofs.WritingLaws.{leaves-is}
-use Rattle.limits.specs.Answers.{bits}
+use Rattle.selection.specs.Selection.{bits}
 use Rattle.slip.specs.Slip.{slip}
 use Rattle.slip.specs.Write.{needed, outcomeOn, outcomeBy, outcome, WritesOn, Slips}
 use Rattle.slip.proofs.SlipLaws.{slip-length}

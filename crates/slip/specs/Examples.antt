@@ -1,12 +1,13 @@
 -- The slip's definition at a day of document 02, and at numbers of three digits.
-use mathlib.Core.Bool.{true, false, _&&_}
+use mathlib.Core.Bool.{true, false}
 use mathlib.Core.Path.{_≡_, refl}
 use mathlib.Core.List.{[], _∷_}
 use Rattle.theory.specs.Sum.{sum}
 use Rattle.text.specs.Text.{ascii, digitsBy, decimal, blanks}
 use Rattle.claimfile.specs.declared.Layout.{Layout}
 use Rattle.refusal.specs.Examples.{weekA}
-use Rattle.slip.specs.Slip.{count, firstLine, rowLine, keptLine, keptLines, slip}
+use Rattle.selection.specs.Selection.{count}
+use Rattle.slip.specs.Slip.{firstLine, rowLine, keptLine, keptLines, slip}
 
 abbrev layoutA : Layout
 layoutA = record { week = true; day = 0; cards = 2; shops = 2; rows = 3; «card_at» = 2; «shop_at» = 36; «row_at» = 70 }

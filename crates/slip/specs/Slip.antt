@@ -1,10 +1,7 @@
 -- The slip for the counter's roll of 32 columns, as bytes: document 02, E1. The file s has the layout l, and the ones of the selection
 -- sel are the kept rows.
---   isKept sel c           whether row c is kept
 --   isEarned s l c         whether row c is earned
---   count n test           how many numbers below n pass a test
---   keptRows n sel         how many of the first n rows are kept
---   earnedRows s l n sel   how many of them are kept and earned
+--   earnedRows s l n sel   how many of the first n rows are kept and earned
 --   firstLine rows earned kept     the first line, with these counts
 --   kindWord earned        the word for a row's kind
 --   rowLine c card shop earned     the line of row c, with the groups that it names
@@ -12,29 +9,20 @@
 --   keptLines s l n sel    the lines of the kept ones of the first n rows, in row order
 --   slip s l sel           the whole slip
 use Prim.Native.Nat.{ℕ, zero, suc}
-use mathlib.Core.Bool.{Bool, _&&_}
+use mathlib.Core.Bool.{Bool}
 use mathlib.Core.List.{List, [], _++_}
 use lib.Dec.{eqb}
-use Rattle.theory.specs.Sum.{pick, sum}
-use Rattle.theory.specs.Matroid.{row}
+use Rattle.theory.specs.Sum.{pick}
 use Rattle.text.specs.Text.{ascii, decimal, line, atRight, spread}
 use Rattle.claimfile.specs.declared.Layout.{Layout}
 use Rattle.claimfile.specs.Day.{namedCard, namedShop, kindOf}
-
-abbrev pub isKept : List ℕ → ℕ → Bool
-isKept sel c = eqb (row sel c) 1
+use Rattle.selection.specs.Selection.{isKept, keptRows, keptOf}
 
 abbrev pub isEarned : List ℕ → Layout → ℕ → Bool
 isEarned s l c = eqb (kindOf s l c) 1
 
-unfoldable pub count : ℕ → (ℕ → Bool) → ℕ
-count n test = sum n (λ c. pick (test c) 1 0)
-
-abbrev pub keptRows : ℕ → List ℕ → ℕ
-keptRows n sel = count n (isKept sel)
-
 abbrev pub earnedRows : List ℕ → Layout → ℕ → List ℕ → ℕ
-earnedRows s l n sel = count n (λ c. isKept sel c && isEarned s l c)
+earnedRows s l n sel = keptOf s l 1 n sel
 
 -- "`CLAIMS`, `EARNED` and `KEPT` with N, the kept earned rows and the kept rows, in fields of 11, 11 and 10 characters, each word at
 -- the left of its field, the count at the right, blanks between"

@@ -5,11 +5,10 @@
 --   outcomeOn s l sel out  the outcome for an accepted file: 8, then 12, then 9, else the slip
 --   outcomeBy s sel out x  the outcome for a file s with the reading x: its own faults come first
 --   outcome f s sel out    the outcome for a file in the form f
---   Covers s l sel         what the parts of writing ask: the file is sound, and the selection has a byte for each row
 --   WritesOn s l sel out out′ r    for an accepted file, the answer r and the cells out′ are the outcome
 --   Slips f s sel out out′ r   the whole contract: the answer r and the cells out′ are the outcome, and so are number and length
 --                          (`Leaves`)
-use Prim.Native.Nat.{ℕ, _+_, _*_, _≤_}
+use Prim.Native.Nat.{ℕ, _+_, _*_}
 use mathlib.Core.Bool.{Bool, true}
 use mathlib.Core.List.{List}
 use lib.ListN.{length}
@@ -20,12 +19,11 @@ use Rattle.claimfile.specs.declared.Layout.{Layout}
 use Rattle.claimfile.specs.declared.Reading.{Reading}
 use Rattle.claimfile.specs.declared.Reading.the-variants as reading-is
 use Rattle.claimfile.specs.File.{days, reading}
-use Rattle.claimfile.specs.Sound.{Sound}
+use Rattle.selection.specs.Selection.{bits, keptRows}
 use Rattle.refusal.specs.declared.Written.{Written}
 use Rattle.refusal.specs.declared.Reason.the-variants.{File, Short, Day, Value}
 use Rattle.refusal.specs.Writing.{Outcome, turned, written, Leaves}
-use Rattle.limits.specs.Answers.{bits}
-use Rattle.slip.specs.Slip.{keptRows, slip}
+use Rattle.slip.specs.Slip.{slip}
 
 abbrev pub width : ℕ
 width = 33
@@ -50,10 +48,6 @@ outcomeBy s sel out (reading-is.Accepted l) = outcomeOn s l sel out
 
 unfoldable pub outcome : Form → List ℕ → List ℕ → List ℕ → Outcome
 outcome f s sel out = outcomeBy s sel out (reading f s)
-
-pub record Covers (s : List ℕ) (l : Layout) (sel : List ℕ) : Type 0 where
-  pub sound : Sound s l
-  pub long : l .rows ≤ length sel
 
 abbrev pub WritesOn : List ℕ → Layout → List ℕ → List ℕ → List ℕ → Written → Type 0
 WritesOn s l sel out out′ r = Leaves (outcomeOn s l sel out) out′ r

@@ -2,25 +2,25 @@
 //
 // `write_slip` takes any bytes, in a form, and any buffer. `slip_on` does the same for a file that is accepted with a known layout. The
 // whole slip is written at the buffer's start, or nothing. It has no limit in it, so that a stored file's is the same.
-ghost use mathlib.Core.Path.{_≡_};
-ghost use mathlib.Core.List.{_++_};
-ghost use Prim.Native.Nat.{_≤_, _<_};
-ghost use lib.ListN.{length};
+ghost use Prim.Native.Nat.{_<_};
 ghost use lib.Dec.{eqb};
-ghost use Rattle.theory.specs.Sum.{pick};
 ghost use Rattle.text.specs.Buffer.{Appended, Room};
 ghost use Rattle.claimfile.specs.Sound.{Sound};
-ghost use Rattle.slip.specs.Slip.{keptRows, earnedRows, firstLine, rowLine, keptLine, keptLines, slip};
-ghost use Rattle.slip.specs.Write.{Covers, WritesOn, Slips};
+ghost use Rattle.selection.specs.Selection.{Covers, Counted};
+ghost use Rattle.slip.specs.Slip.{firstLine, rowLine, keptLine, keptLines, slip};
+ghost use Rattle.slip.specs.Write.{WritesOn, Slips};
 use claimfile::DAYS;
 use claimfile::Form;
 use claimfile::Layout;
 use claimfile::Reading;
 use claimfile::claim_of;
 use claimfile::read;
-use limits::all_bits;
 use refusal::Reason;
 use refusal::Written;
+use selection::Counts;
+use selection::EARNED;
+use selection::all_bits;
+use selection::count_rows;
 use text::put;
 use text::put_either;
 use text::put_right;
@@ -28,46 +28,6 @@ use text::put_spread;
 
 // The bytes of a line, with its line feed.
 const WIDTH: usize = 33;
-
-// 1 where a test holds, else 0.
-fn one(when: bool) -> usize
-    ensures { λ r. ⌜ r ≡ pick when 1 0 ⌝ }
-{
-    if when {
-        return 1;
-    }
-    0
-}
-
-// How many of the first `rows` rows are kept.
-fn kept_rows(rows: usize, selection: &[u8]) -> usize
-    requires { ⌜ rows ≤ length (now selection) ⌝ }
-    ensures { λ r. ⌜ (r ≡ keptRows rows (now (selection .entry))) × (r ≤ rows) ⌝ }
-{
-    let mut kept = 0;
-    let mut c = 0;
-    while c < rows {
-        kept += one(selection[c] == 1);
-        c += 1;
-    }
-    kept
-}
-
-// How many of the kept rows are earned.
-fn earned_rows(file: &[u8], layout: Layout, selection: &[u8]) -> usize
-    requires { ⌜ Covers (now file) layout (now selection) ⌝ }
-    ensures { λ r. ⌜ (r ≡ earnedRows (now (file .entry)) layout (layout .rows) (now (selection .entry))) × (r ≤ layout .rows) ⌝ }
-{
-    let rows = layout.rows;
-    let mut earned = 0;
-    let mut c = 0;
-    while c < rows {
-        let claim = claim_of(file, layout, c);
-        earned += one((selection[c] == 1) & (claim.kind == 1));
-        c += 1;
-    }
-    earned
-}
 
 // The first line: the rows, the earned rows kept and the rows kept.
 fn put_first(at: usize, rows: usize, earned: usize, kept: usize, out: &mut [u8]) -> usize
@@ -129,13 +89,12 @@ fn put_rows(file: &[u8], layout: Layout, at: usize, selection: &[u8], out: &mut 
 }
 
 // The whole slip, at the buffer's start.
-fn put_slip(file: &[u8], layout: Layout, kept: usize, selection: &[u8], out: &mut [u8]) -> usize
+fn put_slip(file: &[u8], layout: Layout, counts: Counts, selection: &[u8], out: &mut [u8]) -> usize
     requires { ⌜ Covers (now file) layout (now selection) ⌝ }
-    requires { ⌜ kept ≡ keptRows (layout .rows) (now selection) ⌝ }
+    requires { ⌜ Counted (now file) layout 1 (layout .rows) (now selection) counts ⌝ }
     ensures { λ r. ⌜ Appended (now (out .entry)) (now (out .exit)) 0 r (slip (now (file .entry)) layout (now (selection .entry))) ⌝ }
 {
-    let earned = earned_rows(file, layout, selection);
-    let after_first = put_first(0, layout.rows, earned, kept, out);
+    let after_first = put_first(0, layout.rows, counts.matched, counts.kept, out);
     put_rows(file, layout, after_first, selection, out)
 }
 
@@ -149,7 +108,8 @@ pub fn slip_on(file: &[u8], layout: Layout, selection: &[u8], out: &mut [u8]) ->
     if selection.len() < rows {
         return Written::Refused(Reason::Short);
     }
-    let kept = kept_rows(rows, selection);
+    let counts = count_rows(file, layout, EARNED, selection);
+    let kept = counts.kept;
     if out.len() < WIDTH * (kept + 1) {
         return Written::Refused(Reason::Short);
     }
@@ -159,7 +119,7 @@ pub fn slip_on(file: &[u8], layout: Layout, selection: &[u8], out: &mut [u8]) ->
     if !all_bits(selection, rows) {
         return Written::Refused(Reason::Value);
     }
-    Written::Bytes(put_slip(file, layout, kept, selection, out))
+    Written::Bytes(put_slip(file, layout, counts, selection, out))
 }
 
 // Writes the slip of a file in a form, with a selection whose ones are the kept rows. The selection has N bytes or more, where N is the

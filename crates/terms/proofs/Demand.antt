@@ -14,11 +14,10 @@
 -- Of the call:
 --   number-told            the number told is that of the file's first fault, else 8, else 12, else none
 --   ClosedKinds closed-kinds   where the call answers Closed, the file is accepted under the second terms and the above holds of its day
-use mathlib.Core.Path.{_≡_, refl, sym, ap, _∙_, subst}
-use mathlib.Core.Logic.{_⊎_, inl, inr}
+use mathlib.Core.Path.{_≡_, refl, sym, ap, _∙_}
+use mathlib.Core.Logic.{_⊎_}
 use mathlib.Core.List.{List}
 use Prim.Native.Nat.{ℕ, _+_, _-_, _^_, _≤_, _<_}
-use native.Mathlib.Decide.{decLt}
 use native.Mathlib.Omega.{arith}
 use Rattle.theory.specs.Incidence.{Covers, worth}
 use Rattle.theory.specs.Matroid.{row}
@@ -37,15 +36,15 @@ use Rattle.claimfile.specs.File.{secondTerms, days, readingKinds}
 use Rattle.claimfile.specs.Day.{networkOf, instanceOf}
 use Rattle.claimfile.proofs.TermsLaws.{second-kinds}
 use Rattle.refusal.specs.declared.Reason.{Reason}
-use Rattle.refusal.specs.declared.Reason.the-variants.{File, Short, Day}
+use Rattle.refusal.specs.declared.Reason.the-variants.{File}
+use Rattle.answers.specs.declared.SettleKindsAnswer.{SettleKindsAnswer}
 use Rattle.kinds.specs.declared.KindTotals.{KindTotals}
 use Rattle.kinds.specs.declared.SettledKinds.{SettledKinds}
 use Rattle.kinds.specs.declared.SettledKinds.the-variants.{Closed, Refused}
 use Rattle.closing.specs.Settle.{Enough, bestRowIn, markOf, claimMarkOf}
 use Rattle.closing.specs.ClosesIn.{ClosesIn}
-use Rattle.closing.proofs.Demand.{enough-or-not}
-use Rattle.closing.proofs.ClosesLaws.{sum-worth}
-use Rattle.kinds.specs.Settle.{countOf, ToldKinds, toldKindsBy, toldKindsFor, SettlesKindsOn, SettlesKinds}
+use Rattle.closing.proofs.Demand.{closed-by}
+use Rattle.kinds.specs.Settle.{countOf, settledKindsNumbers, toldKindsFor, SettlesKinds}
 
 --------------------------------------------------------------------------------
 -- The best choice of a day with K kinds
@@ -88,7 +87,7 @@ module _
     covered = C .certified .cover
 
     pub totals-equal : sum ≡ worth (i .net .rows) (weightOf (i .net .rows) (i .kind)) (row ch′)
-    totals-equal = sum-worth K i ch sheet t ch′ sheet′ t′ count all sum C
+    totals-equal = C .total ∙ C .certified .equal
 
     pub marks-most :
         ((v : ℕ) → v < i .net .groups → markOf sheet′ v ≤ (i .net .rows + 1) ^ (K - 1))
@@ -147,38 +146,18 @@ not-refused r why a p q =
 module _
     (d : ℕ) (s ch sheet t ch′ sheet′ t′ : List ℕ) (r : SettledKinds) (S : SettlesKinds d s ch sheet t ch′ sheet′ t′ r)
   where
-    pub number-told : toldKindsBy r .number ≡ toldKindsFor s (readingKinds d s) ch sheet t .number
-    number-told = ap (λ (x : ToldKinds). x .number) (S .told)
+    pub number-told : settledKindsNumbers r .refusal ≡ toldKindsFor s (readingKinds d s) ch sheet t .refusal
+    number-told = ap (λ (x : SettleKindsAnswer). x .refusal) (S .told)
 
     module _ (a : KindTotals) (is : r ≡ Closed a) where
-      on-day :
-          (l : Layout) → readingKinds d s ≡ reading-is.Accepted l →
-          SettlesKindsOn (instanceOf s l) (l .day) ch sheet t ch′ sheet′ t′ r → ClosedKinds d s ch sheet t ch′ sheet′ t′ a
-      on-day l p D =
-          elim (enough-or-not (networkOf s l) ch sheet t) [
-            | inl e ↦
-                elim (decLt (l .day) days) [
-                  | yes known ↦
-                      let closed = D .closed e known in
-                      record {
-                        layout = l;
-                        accepted = p;
-                        known = known;
-                        enough = e;
-                        closes =
-                            subst
-                            (λ (x : KindTotals).
-                            ClosesIn secondTerms (instanceOf s l) ch sheet t ch′ sheet′ t′ (countOf x) (x .kept) (x .total))
-                            (one-total r (closed .0) a (closed .1) is) (closed .2);
-                      }
-                  | no over ↦ not-refused r Day a (D .dayless e (omega arith) .0) is
-                ]
-            | inr h ↦ not-refused r Short a (D .short h .0) is
-          ]
-
       judged : (x : Reading) → readingKinds d s ≡ x → ClosedKinds d s ch sheet t ch′ sheet′ t′ a
       judged (reading-is.Refused why) p = not-refused r (File why) a (S .refused why p .0) is
-      judged (reading-is.Accepted l) p = on-day l p (S .settled l p)
+      judged (reading-is.Accepted l) p =
+          let D = S .settled l p in
+          let closed = closed-by one-total not-refused (networkOf s l) (l .day) ch sheet t r
+          (λ (x : KindTotals). ClosesIn secondTerms (instanceOf s l) ch sheet t ch′ sheet′ t′ (countOf x) (x .kept) (x .total))
+          (D .short) (D .dayless) (D .closed) a is in
+          record { layout = l; accepted = p; known = closed .0; enough = closed .1; closes = closed .2 }
 
       pub closed-kinds : ClosedKinds d s ch sheet t ch′ sheet′ t′ a
       closed-kinds = judged (readingKinds d s) refl

@@ -39,13 +39,13 @@ use Rattle.claimfile.proofs.AcceptedLaws.{one-layout, accepted-kinds}
 use Rattle.claimfile.proofs.TermsLaws.{either-reading, first-second}
 use Rattle.closing.specs.declared.Totals.{Totals}
 use Rattle.closing.specs.declared.Settled.{Settled}
-use Rattle.closing.specs.Settle.{toldBy, toldOn, toldFor, lacks, bestRowIn, bestRow, Closes, Settles}
+use Rattle.closing.specs.Settle.{settledNumbers, toldOn, toldFor, lacks, bestRowIn, bestRow, Closes, Settles}
 use Rattle.closing.specs.ClosesIn.{firstCounts, ClosesIn}
 use Rattle.closing.proofs.ClosesLaws.{closes-in}
 use Rattle.closing.proofs.Demand.{ClosedDay, number-told}
 use Rattle.kinds.specs.declared.KindTotals.{KindTotals}
 use Rattle.kinds.specs.declared.SettledKinds.{SettledKinds}
-use Rattle.kinds.specs.Settle.{countOf, toldKindsBy, toldKindsOn, toldKindsFor, SettlesKinds}
+use Rattle.kinds.specs.Settle.{countOf, settledKindsNumbers, toldKindsOn, toldKindsFor, SettlesKinds}
 use Rattle.limits.specs.declared.Ranked.{Ranked}
 use Rattle.limits.specs.Answers.{enteredBy, enteredIn, rankedBy, rankedIn, Answered, AnsweredKinds}
 use Rattle.terms.proofs.Demand as kinds-demand
@@ -127,7 +127,7 @@ module _
     same-lacks : (n : Network) → lacks n ch₁ sheet₁ t₁ ≡ lacks n ch₂ sheet₂ t₂
     same-lacks n = rw (choices, sheets, cells)
 
-    same-on : (i : Instance) (d : ℕ) → toldOn i d ch₁ sheet₁ t₁ .number ≡ toldKindsOn i d ch₂ sheet₂ t₂ .number
+    same-on : (i : Instance) (d : ℕ) → toldOn i d ch₁ sheet₁ t₁ .refusal ≡ toldKindsOn i d ch₂ sheet₂ t₂ .refusal
     unfolding toldOn toldKindsOn
     same-on i d =
         elim (either (lacks (i .net) ch₂ sheet₂ t₂)) [
@@ -139,7 +139,7 @@ module _
               ]
         ]
 
-    same-number : (s : List ℕ) (x : Reading) → toldFor s x ch₁ sheet₁ t₁ .number ≡ toldKindsFor s x ch₂ sheet₂ t₂ .number
+    same-number : (s : List ℕ) (x : Reading) → toldFor s x ch₁ sheet₁ t₁ .refusal ≡ toldKindsFor s x ch₂ sheet₂ t₂ .refusal
     same-number s (Refused why) = refl
     same-number s (Accepted l) = same-on (instanceOf s l) (l .day)
 
@@ -147,10 +147,10 @@ module _
         (d : ℕ) (s : List ℕ) → OfKinds firstTerms (newWeek d) s →
         (ch₁′ sheet₁′ t₁′ ch₂′ sheet₂′ t₂′ : List ℕ) (p : Settled) (q : SettledKinds) →
         Settles (newWeek d) s ch₁ sheet₁ t₁ ch₁′ sheet₁′ t₁′ p → SettlesKinds d s ch₂ sheet₂ t₂ ch₂′ sheet₂′ t₂′ q →
-        toldBy p .number ≡ toldKindsBy q .number
+        settledNumbers p .refusal ≡ settledKindsNumbers q .refusal
     either-number d s few ch₁′ sheet₁′ t₁′ ch₂′ sheet₂′ t₂′ p q S T =
         number-told (newWeek d) s ch₁ sheet₁ t₁ ch₁′ sheet₁′ t₁′ p S ∙ same-number s (reading (newWeek d) s)
-        ∙ ap (λ (x : Reading). toldKindsFor s x ch₂ sheet₂ t₂ .number) (either-reading d s few)
+        ∙ ap (λ (x : Reading). toldKindsFor s x ch₂ sheet₂ t₂ .refusal) (either-reading d s few)
         ∙ sym (kinds-demand.number-told d s ch₂ sheet₂ t₂ ch₂′ sheet₂′ t₂′ q T)
 
 pub either-ranked :

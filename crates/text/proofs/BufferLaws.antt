@@ -14,7 +14,7 @@ use native.Mathlib.Nat.{add-zero, add-suc, suc-add}
 use native.Mathlib.Omega.{arith}
 use lib.ListN.{length, take, drop, set, length-append}
 use lib.Seq.{sets, sets-eq, length-sets, set-out, take-at, drop-at}
-use Rattle.text.specs.Buffer.{Appended, Whole, Short, Written}
+use Rattle.text.specs.Buffer.{Appended, Written}
 
 sets-then : (a b out : List ℕ) (at : ℕ) → sets (sets out at a) (at + length a) b ≡ sets out at (a ++ b)
 sets-then [] b out at = rw add-zero

@@ -1,6 +1,6 @@
 -- More kinds than a day has. Where all rows are of K kinds, the best choice with K kinds is the one with any greater number of them.
 --   lex-wider lex-narrower two lists of counts that agree from place K on are compared alike with K places and with more
---   best-wider best-narrower   a best choice with K kinds is one with more, and the other way round
+--   best-wider                 a best choice with K kinds is one with more
 --   choice-wider           the best choice is the same list
 use mathlib.Core.Path.{_≡_, sym, _∙_, subst}
 use mathlib.Core.Logic.{inl, inr}
@@ -46,14 +46,6 @@ module _ (N K L : ℕ) (kind : ℕ → ℕ) (ranged : (c : ℕ) → c < N → ki
     fits = b .fits;
     most = λ Y s f. lex-wider K (kept N kind Y) (kept N kind X) (none Y X) L more (b .most Y s f);
     first = λ Y s f m. b .first Y s f (lex-narrower K (kept N kind X) (kept N kind Y) (none X Y) L more m);
-  }
-
-  pub best-narrower : {Fit : (ℕ → ℕ) → Type 0} {X : ℕ → ℕ} → Best N L kind Fit X → Best N K kind Fit X
-  best-narrower {X = X} b = record {
-    bits = b .bits;
-    fits = b .fits;
-    most = λ Y s f. lex-narrower K (kept N kind Y) (kept N kind X) (none Y X) L more (b .most Y s f);
-    first = λ Y s f m. b .first Y s f (lex-wider K (kept N kind X) (kept N kind Y) (none X Y) L more m);
   }
 
 pub choice-wider :

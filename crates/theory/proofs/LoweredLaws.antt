@@ -1,5 +1,5 @@
 -- Laws of lowered limits.
---   lesser-top lesser-le       a node under a root keeps its limit, and no limit rises
+--   lesser-top                 a node under a root keeps its limit
 --   lowered-step               from the front: a node's own limit, or its parent's, already lowered, where that is less
 --   lowered-top lowered-below  the same, one law a case
 --   lowered-le lowered-mono    it is at most the node's own, and at most its parent's
@@ -39,13 +39,6 @@ use Rattle.theory.proofs.TestLaws.{either, both-true, true-both}
 
 pub lesser-top : (G above limit x : ℕ) → G ≤ above → lesser G above limit x ≡ limit
 lesser-top G above limit x h = rw (le-ltb _ _ h)
-
-pub lesser-le : (G above limit x : ℕ) → lesser G above limit x ≤ limit
-lesser-le G above limit x =
-    elim (decLt above G) [
-      | yes h ↦ rw (lt-ltb _ _ h) (omega arith)
-      | no h ↦ omega (arith, lesser-top G above limit x (omega arith))
-    ]
 
 module _ (G : ℕ) (parent : ℕ → ℕ) (down : Down G parent) (limit : ℕ → ℕ) where
   pub lowered-step : (v : ℕ) → v < G → lowered G parent limit v ≡ lesser G (parent v) (limit v) (lowered G parent limit (parent v))

@@ -1,2 +1,2 @@
 -- What the exported calls answer.
-pub mod Numbers
+pub mod Calls

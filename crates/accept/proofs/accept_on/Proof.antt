@@ -4,7 +4,7 @@ use Prim.Native.Nat.{_≤_}
 use native.Mathlib.Omega.{arith}
 use lib.ListN.{length}
 use Rattle.claimfile.specs.Day.{networkOf}
-use Rattle.limits.proofs.SelectionLaws.{are-bits}
+use Rattle.selection.proofs.SelectionLaws.{are-bits}
 use Rattle.closing.specs.Settle.{needed}
 use Rattle.accept.proofs.VerdictLaws.{short-choice, short-sheet, no-day, no-bits, judged-by}
 use Rattle.accept.proofs.accept_on.Statement.{statement}

@@ -3,7 +3,7 @@
 use native.Mathlib.Omega.{arith}
 use borrow.Author.Needs.{needs}
 use Rattle.claimfile.specs.File.{secondTerms}
-use Rattle.residual.specs.Memory.{lows}
+use Rattle.scratch.specs.Memory.{lows}
 use Rattle.closing.specs.Close.{Lent}
 use Rattle.closing.proofs.SettleLaws.{in-second, tables-given, tables-solvable, solved-settlement, empty-settlement}
 use Rattle.kinds.proofs.LowLaws.{lent-lows}

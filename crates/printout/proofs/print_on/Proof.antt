@@ -1,5 +1,5 @@
 -- What settling answers decides the text: a refusal's number, or the choice and the totals that it left.
-use mathlib.Core.Path.{_≡_, subst}
+use mathlib.Core.Path.{subst}
 use Prim.Native.Nat.{ℕ}
 use native.Mathlib.Omega.{arith}
 use borrow.Author.Needs.{needs}

@@ -14,8 +14,8 @@ returns c =
     let a = c .before .before .before .before .args in
     on-few (a .file .now) (a .layout) (a .selection .now) (a .out .now) (omega arith)
 
-kept-rows-requires : tie.Need-kept-rows-requires
-kept-rows-requires c κs = search needs
+count-rows-requires : tie.Need-count-rows-requires
+count-rows-requires c κs = search needs
 
 add-if2 : tie.Need-add-if2
 add-if2 c = search needs
@@ -69,7 +69,7 @@ slip-on-spec =
     tie.close
     (tie.spec
     returns
-    kept-rows-requires
+    count-rows-requires
     add-if2
     mul-if2
     returns-2

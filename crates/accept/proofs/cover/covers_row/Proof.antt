@@ -4,33 +4,42 @@ use native.Mathlib.Omega.{arith}
 use borrow.Author.Needs.{needs}
 use Rattle.claimfile.specs.declared.Claim.{Claim}
 use Rattle.claimfile.specs.Day.{cardNode, shopNode}
-use Rattle.tables.proofs.WriteLaws.{card-hung, shop-hung, weighed}
-use Rattle.accept.proofs.TableLaws.{card-cell, shop-cell}
+use Rattle.instance.proofs.RowLaws.{card-hung, shop-hung, weighed}
+use Rattle.instance.proofs.NodeLaws.{card-cell, shop-cell}
 use Rattle.accept.proofs.CoverLaws.{covers-is}
 use Rattle.accept.proofs.cover.covers_row.Statement.{statement}
 use Rattle.accept.proofs.cover.covers_row.Tie as tie
 
+-- the places behind the claim, and behind its card node
+abbrev entered : tie.After-claim-of → tie.Start
+entered c = c .before .before .before .before
+
+abbrev read : tie.After-card-node → tie.After-claim-of
+read c = c .before .before
+
 -- the two nodes are those where the row hangs
 card-is :
     (c : tie.After-card-node) →
-    let a = c .before .before .before .before .before .args in
+    let a = entered (read c) .args in
     c .card-node .result ≡ cardNode (a .file .now) (a .layout) (a .c)
 card-is c =
-    let read = c .before in
-    let a = read .before .before .before .before .args in
-    c .card-node .ensures .0 ∙ card-hung (a .file .now) (a .layout) (a .c) _ (read .claim-of .ensures .0)
+    let claim = read c .claim-of .ensures in
+    let a = entered (read c) .args in
+    c .card-node .ensures .0 ∙ card-hung (a .file .now) (a .layout) (a .c) _ (claim .0) (claim .1)
 
 shop-is :
     (c : tie.After-shop-node) →
-    let a = c .before .before .before .before .before .before .args in
+    let a = entered (read (c .before)) .args in
     c .shop-node .result ≡ shopNode (a .file .now) (a .layout) (a .c)
 shop-is c =
-    let read = c .before .before in
-    let a = read .before .before .before .before .args in
-    c .shop-node .ensures ∙ shop-hung (a .file .now) (a .layout) (a .c) _ (read .claim-of .ensures .0)
+    let a = entered (read (c .before)) .args in
+    c .shop-node .ensures ∙ shop-hung (a .file .now) (a .layout) (a .c) _ (read (c .before) .claim-of .ensures .0)
 
 claim-of-requires : tie.Need-claim-of-requires
 claim-of-requires c κs = search needs
+
+add-groups : tie.Need-add-groups
+add-groups c = search needs
 
 card-node-requires : tie.Need-card-node-requires
 card-node-requires c κs = search needs
@@ -40,7 +49,7 @@ shop-node-requires c κs = search needs
 
 price-of-requires : tie.Need-price-of-requires
 price-of-requires c κs =
-    let start = c .before .before .before .before .before .before in
+    let start = entered (read (c .before)) in
     let a = start .args in
     let sound = start .pre .0 .sound in (
       omega (arith, card-is (c .before), card-cell (a .file .now) (a .layout) sound (a .c) (start .pre .2), start .pre .1 .long),
@@ -50,15 +59,12 @@ price-of-requires c κs =
 add-own : tie.Need-add-own
 add-own c = search needs
 
-add-own-2 : tie.Need-add-own-2
-add-own-2 c = search needs
-
 power-requires : tie.Need-power-requires
 power-requires c κs =
-    let read = c .before .before .before .before in
-    let start = read .before .before .before .before in (
+    let claimed = read (c .before .before) in
+    let start = entered claimed in (
       start .pre .0 .sound .rows-most,
-      omega (arith, ap (λ (x : Claim). x .kind) (read .claim-of .ensures .0), start .pre .0 .kinds (start .args .c) (start .pre .2)),
+      omega (arith, ap (λ (x : Claim). x .kind) (claimed .claim-of .ensures .0), start .pre .0 .kinds (start .args .c) (start .pre .2)),
     )
 
 long-requires : tie.Need-long-requires
@@ -79,16 +85,15 @@ add-result c = search needs
 returns : tie.Need-returns
 returns c =
     let weighed-as = c .before .before in
-    let priced = weighed-as .before .before .before in
+    let priced = weighed-as .before .before in
     let shop = priced .before in
     let card = shop .before in
-    let read = card .before in
-    let start = read .before .before .before .before in
+    let start = entered (read card) in
     let a = start .args in
     covers-is (a .file .now) (a .layout) (start .pre .0 .sound) (start .pre .0 .kinds) (a .sheet .now) (a .prices .now) (start .pre .1)
     (a .c) (start .pre .2) _ (c .wide .result) _ _ _
     (weighed-as .long .ensures ∙ weighed-as .before .power .ensures .0
-    ∙ weighed (a .file .now) (a .layout) (a .c) _ (read .claim-of .ensures .0))
+    ∙ weighed (a .file .now) (a .layout) (a .c) _ (read card .claim-of .ensures .0))
     (omega (arith, c .wide .ensures .0)) (card-is card) (shop-is shop) (priced .price-of .ensures .0)
 
 pub covers-row-spec : {M : Type 1} → statement M
@@ -96,11 +101,11 @@ covers-row-spec =
     tie.close
     (tie.spec
     claim-of-requires
+    add-groups
     card-node-requires
     shop-node-requires
     price-of-requires
     add-own
-    add-own-2
     power-requires
     long-requires
     mul-wide

@@ -5,7 +5,8 @@ use native.Mathlib.Omega.{arith}
 use lib.ListN.{length}
 use borrow.Author.Needs.{needs}
 use Rattle.accept.specs.Judge.{Priced}
-use Rattle.accept.proofs.TableLaws.{groups-few, priced-none}
+use Rattle.instance.proofs.NodeLaws.{groups-few}
+use Rattle.accept.proofs.TableLaws.{priced-none}
 use Rattle.accept.proofs.cover.price_groups.Statement.{statement}
 use Rattle.accept.proofs.cover.price_groups.Tie as tie
 

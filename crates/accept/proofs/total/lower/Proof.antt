@@ -5,14 +5,10 @@ use borrow.Author.Tests.{lt-ltb, le-ltb}
 use Rattle.accept.proofs.total.lower.Statement.{statement}
 use Rattle.accept.proofs.total.lower.Tie as tie
 
-long-requires : tie.Need-long-requires
-long-requires c κs = search needs
-
 returns : tie.Need-returns
 returns c =
-    let own = c .before in
-    let a = own .before .before .args in
-    (rw (le-ltb (a .up) (a .groups) (omega arith)) (own .long .ensures), omega (arith, own .long .ensures))
+    let a = c .before .before .args in
+    (rw (le-ltb (a .up) (a .groups) (omega arith)), omega arith)
 
 mul-cell : tie.Need-mul-cell
 mul-cell c = search needs
@@ -23,30 +19,24 @@ shared-slice-read-cell c = search needs
 cell-requires : tie.Need-cell-requires
 cell-requires c κs = search needs
 
+lesser-requires : tie.Need-lesser-requires
+lesser-requires c κs = search needs
+
 returns-2 : tie.Need-returns-2
 returns-2 c =
-    let own = c .before .before .before .before in
-    let a = own .before .before .args in (
-      rw (lt-ltb (a .up) (a .groups) (omega arith)) (omega (arith, own .long .ensures, c .before .cell .ensures .0)),
-      omega (arith, own .long .ensures),
-    )
-
-returns-3 : tie.Need-returns-3
-returns-3 c =
-    let own = c .before .before .before .before in
-    let a = own .before .before .args in (
-      rw (lt-ltb (a .up) (a .groups) (omega arith)) (omega (arith, own .long .ensures, c .before .cell .ensures .0)),
-      omega (arith, own .long .ensures),
+    let read = c .before in
+    let a = read .before .before .before .before .args in (
+      rw (lt-ltb (a .up) (a .groups) (omega arith)) (omega (arith, c .lesser .ensures, read .cell .ensures .0)),
+      omega (arith, c .lesser .ensures),
     )
 
 pub lower-spec : {M : Type 1} → statement M
 lower-spec =
     tie.close
     (tie.spec
-    long-requires
     returns
     mul-cell
     shared-slice-read-cell
     cell-requires
-    returns-2
-    returns-3)
+    lesser-requires
+    returns-2)

@@ -8,7 +8,8 @@ use Rattle.theory.proofs.SumLaws.{sum-next}
 use Rattle.claimfile.specs.Day.{limitOf}
 use Rattle.closing.specs.Settle.{markOf}
 use Rattle.accept.specs.Judge.{mostProduct, Lowers, groupTotal}
-use Rattle.accept.proofs.TableLaws.{groups-few, lowers-none}
+use Rattle.instance.proofs.NodeLaws.{groups-few}
+use Rattle.accept.proofs.TableLaws.{lowers-none}
 use Rattle.accept.proofs.CoverLaws.{group-total-none}
 use Rattle.accept.proofs.total.total_groups.Statement.{statement}
 use Rattle.accept.proofs.total.total_groups.Tie as tie

@@ -3,7 +3,7 @@ use mathlib.Core.Path.{ap₂}
 use Prim.Native.Nat.{_+_}
 use native.Mathlib.Omega.{arith}
 use borrow.Author.Needs.{needs}
-use Rattle.accept.proofs.TableLaws.{groups-few}
+use Rattle.instance.proofs.NodeLaws.{groups-few}
 use Rattle.accept.proofs.total.total_of.Statement.{statement}
 use Rattle.accept.proofs.total.total_of.Tie as tie
 

@@ -1,14 +1,14 @@
 -- Two stores: the first item at the node goes into the cell of the new one, and the picked item becomes the first.
 use Prim.Native.Nat.{ℕ}
 use mathlib.Core.List.{List}
-use Rattle.residual.specs.Memory.{memory}
+use Rattle.scratch.specs.Memory.{memory}
 use mathlib.Core.Path.{sym}
 use native.Mathlib.Omega.{arith}
 use Rattle.theory.proofs.TestLaws.{pick-most}
-use Rattle.residual.specs.Map.{firsts, part}
-use Rattle.residual.proofs.PartLaws.{half-fits}
-use Rattle.residual.proofs.MapLaws.{room-keeps, half-small}
-use Rattle.residual.proofs.ListLaws.{hung-of}
+use Rattle.scratch.specs.Map.{firsts, part}
+use Rattle.scratch.proofs.PartLaws.{half-fits}
+use Rattle.scratch.proofs.MapLaws.{room-keeps, half-small}
+use Rattle.residual.proofs.LinkLaws.{hung-of}
 use borrow.Author.Needs.{needs}
 use Rattle.residual.proofs.lists.hang.Statement.{statement}
 use Rattle.residual.proofs.lists.hang.Tie as tie

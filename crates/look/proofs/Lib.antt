@@ -1,0 +1,5 @@
+-- The laws that belong to no one function.
+pub mod LabelLaws
+pub mod ReachLaws
+pub mod LookLaws
+pub mod StepLaws

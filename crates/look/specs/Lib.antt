@@ -1,0 +1,3 @@
+-- What the contracts say.
+pub mod Reach
+pub mod Look

@@ -1,0 +1,3 @@
+-- What the contracts say.
+pub mod Fill
+pub mod Path

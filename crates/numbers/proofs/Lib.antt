@@ -1,0 +1,2 @@
+-- Laws of the answers in numbers.
+pub mod NumberLaws

@@ -1,0 +1,4 @@
+-- The laws that belong to no one function.
+pub mod TurnLaws
+pub mod FlipLaws
+pub mod SealLaws

@@ -1,0 +1,3 @@
+-- What the contracts say.
+pub mod Flip
+pub mod Seal

@@ -1,0 +1,56 @@
+-- The invariant: the cells before i are 0.
+use Prim.Native.Nat.{_-_}
+use native.Mathlib.Omega.{arith}
+use lib.ListN.{length}
+use Rattle.scratch.proofs.ClearLaws.{Clearing, clearing-none, clearing-more, clearing-all}
+use Rattle.scratch.proofs.clear.clear_wide.Statement.{statement}
+use Rattle.scratch.proofs.clear.clear_wide.Tie as tie
+
+abbrev Inv-loop : tie.InvT-loop
+Inv-loop cells₀ i₀ cells i = Clearing cells₀ cells i
+
+abbrev μ-loop : tie.MeasureT-loop
+μ-loop cells₀ i₀ cells i = length cells₀ - i
+
+loop-holds : tie.Need-loop-holds Inv-loop μ-loop
+loop-holds c = clearing-none (c .args .cells .now)
+
+mul-cells : tie.Need-mul-cells Inv-loop μ-loop
+mul-cells c = omega (arith, c .before .loop .inv .long)
+
+slice-write-cells : tie.Need-slice-write-cells Inv-loop μ-loop
+slice-write-cells c = c .loop-test .taken
+
+add-i : tie.Need-add-i Inv-loop μ-loop
+add-i c = omega (arith, c .before .loop .inv .long)
+
+loop-less : tie.Need-loop-less Inv-loop μ-loop
+loop-less c = omega (arith, c .before .loop .inv .long)
+
+loop-again : tie.Need-loop-again Inv-loop μ-loop
+loop-again c =
+    let at = c .before in
+    clearing-more (at .before .args .cells .now) (at .loop .cells) (at .loop .i) (at .loop .inv) (c .loop-test .taken)
+
+same-length : tie.Need-same-length Inv-loop μ-loop
+same-length c = c .before .loop .inv .long
+
+returns : tie.Need-returns Inv-loop μ-loop
+returns c =
+    let at = c .before in
+    clearing-all (at .before .args .cells .now) (at .loop .cells) (at .loop .i) (at .loop .inv) (c .loop-test .left)
+
+pub clear-wide-spec : {M : Type 1} → statement M
+clear-wide-spec =
+    tie.close
+    (tie.spec
+    Inv-loop
+    μ-loop
+    loop-holds
+    mul-cells
+    slice-write-cells
+    add-i
+    loop-less
+    loop-again
+    same-length
+    returns)

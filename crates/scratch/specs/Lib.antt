@@ -1,0 +1,5 @@
+-- What the contracts say.
+pub mod Clear
+pub mod Memory
+pub mod Map
+pub mod View

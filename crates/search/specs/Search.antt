@@ -1,0 +1,120 @@
+-- What the functions of the search ask and promise. A search changes label and queue alone. It goes along open arcs, or against them where
+-- `back` holds: a step from u to v is by an open arc from u to v, or from v to u.
+--   ReachBy sh back ch sheet t t′ h n   in t′ the nodes that are reached by steps of the residual network of t
+--   ReachOf sh ch sheet t t′ h n   the same along open arcs
+--   Open sh back ch sheet t u h n   what a scan of node u asks: u stands in place h of the queue; against the arcs it is not the source,
+--                              whose list may be short
+--   Scanned sh back ch sheet t t′ u h n n′ P  no step by an arc of P from u leads to a fresh node
+--   Rising sh back u b e       e is the arc of a step from u to its parent, and b holds
+--   Every e                    e is any arc
+--   Newest sh t t′ h n r       the nodes in place h and in the last of n places of the queue were swapped, and r is now in place h
+--   Next sh t t′ h n r         so, or nothing changed; r is now in place h
+--   Seeded sh back ch sheet t target   what the queue asks; against the arcs the source is not fresh, and it is not reached
+--   Asked sh ch sheet t start target   what a search asks: the start is fresh, and no node is reached. Where the target is not fresh,
+--                              it is not reached, and the search goes to its end
+--   SearchedBy sh back ch sheet t t′ start target n   what it promises: n nodes are reached, the first of them the start, each other by
+--                              a step from one before it, and each was fresh; where the target is not reached, no step leads from a
+--                              reached node to a fresh one. Node v is reached exactly where `predOf sh t′ v` is above 0
+--   Searched sh ch sheet t t′ start target n   the same along open arcs
+--   Queued sh t n              the first n places of the queue hold nodes
+--   Relabelled sh t t′ n x     the nodes in the first n places of the queue have the label x, and the others the old one
+--   Refreshed sh t t′ m        the nodes below m are fresh
+use mathlib.Core.Path.{_≡_}
+use mathlib.Core.Logic.{_⊎_, _≢_}
+use mathlib.Core.Bool.{Bool, true, false}
+use mathlib.Core.List.{List}
+use Prim.Native.Nat.{ℕ, _+_, _-_, _≤_, _<_}
+use Rattle.theory.specs.Sum.{pick}
+use Rattle.scratch.specs.declared.Shape.{Shape}
+use Rattle.scratch.specs.Map.{labelOf, predOf, queueOf, spareOf, keptOf, queues, Room, Keeps, OnlySearch, OnlyLabels}
+use Rattle.scratch.specs.View.{residualOf}
+use Rattle.residual.specs.State.{Ready}
+use Rattle.residual.specs.Items.{Lists}
+use Rattle.look.specs.Reach.{Step, Spread, Reach, Done, Grew}
+
+abbrev pub ReachBy : Shape → Bool → List ℕ → List ℕ → List ℕ → List ℕ → ℕ → ℕ → Type 0
+ReachBy sh back ch sheet t t′ h n = Reach back (residualOf sh sheet t) (keptOf ch) (spareOf sh t) (predOf sh t′) (queueOf sh t′) h n
+
+-- along open arcs
+abbrev pub ReachOf : Shape → List ℕ → List ℕ → List ℕ → List ℕ → ℕ → ℕ → Type 0
+ReachOf sh ch sheet t t′ h n = ReachBy sh false ch sheet t t′ h n
+
+pub record Asked (sh : Shape) (ch sheet t : List ℕ) (start target : ℕ) : Type 0 where
+  pub ready : Ready sh ch sheet t
+  pub free : sh .free ≤ sh .rows
+  pub lists : Lists sh sheet t
+  pub start-node : start < sh .groups + 2
+  pub target-node : target < sh .groups + 2
+  pub start-fresh : labelOf sh t start ≡ sh .fresh
+  pub dark : (v : ℕ) → v < sh .groups + 2 → predOf sh t v ≡ 0
+
+module _ (sh : Shape) (back : Bool) (ch sheet t : List ℕ) where
+  pub record Open (u h n : ℕ) : Type 0 where
+    pub ready : Ready sh ch sheet t
+    pub free : sh .free ≤ sh .rows
+    pub lists : Lists sh sheet t
+    pub early : h < n
+    pub at : queueOf sh t h ≡ u
+    pub aside : back ≡ true → u ≢ sh .groups
+    pub reach : ReachBy sh back ch sheet t t (h + 1) n
+
+  pub record Scanned (t′ : List ℕ) (u h n n′ : ℕ) (P : ℕ → Type 0) : Type 0 where
+    pub only : OnlySearch sh t t′
+    pub grew :
+        Grew back (residualOf sh sheet t) (keptOf ch) (spareOf sh t) (sh .fresh) (labelOf sh t) (queueOf sh t) n (labelOf sh t′) (queueOf sh t′)
+        (h + 1) n′
+    pub done :
+        (e v : ℕ) → P e → Step back (residualOf sh sheet t) (keptOf ch) (spareOf sh t) e u v → labelOf sh t′ v ≢ sh .fresh
+
+  pub record Seeded (target : ℕ) : Type 0 where
+    pub ready : Ready sh ch sheet t
+    pub free : sh .free ≤ sh .rows
+    pub lists : Lists sh sheet t
+    pub node : target < sh .groups + 2
+    pub reach : ReachBy sh back ch sheet t t 0 1
+    pub aside : back ≡ true → (labelOf sh t (sh .groups) ≢ sh .fresh) × (predOf sh t (sh .groups) ≡ 0)
+
+  pub record SearchedBy (t′ : List ℕ) (start target n : ℕ) : Type 0 where
+    pub only : OnlySearch sh t t′
+    pub reach : ReachBy sh back ch sheet t t′ n n
+    pub begin : queueOf sh t′ 0 ≡ start
+    pub spread : Spread (sh .fresh) (labelOf sh t) (labelOf sh t′)
+    pub closed :
+        predOf sh t′ target ≡ 0 → (u : ℕ) → u < sh .groups + 2 → 0 < predOf sh t′ u →
+        Done back (residualOf sh sheet t) (keptOf ch) (spareOf sh t) (sh .fresh) (labelOf sh t′) u
+
+-- a search along open arcs
+abbrev pub Searched : Shape → List ℕ → List ℕ → List ℕ → List ℕ → ℕ → ℕ → ℕ → Type 0
+Searched sh ch sheet t t′ start target n = SearchedBy sh false ch sheet t t′ start target n
+
+pub record Newest (sh : Shape) (t t′ : List ℕ) (h n r : ℕ) : Type 0 where
+  pub only : Keeps sh (λ l. l ≡ queues) t t′
+  pub taken : r ≡ queueOf sh t′ h
+  pub here : queueOf sh t′ h ≡ queueOf sh t (n - 1)
+  pub there : queueOf sh t′ (n - 1) ≡ queueOf sh t h
+  pub else : (i : ℕ) → i ≢ h → i ≢ n - 1 → queueOf sh t′ i ≡ queueOf sh t i
+
+-- the newest node was brought to place h, or the one that stood there is taken
+abbrev pub Next : Shape → List ℕ → List ℕ → ℕ → ℕ → ℕ → Type 0
+Next sh t t′ h n r = Newest sh t t′ h n r ⊎ ((t′ ≡ t) × (r ≡ queueOf sh t h))
+
+pub record Queued (sh : Shape) (t : List ℕ) (n : ℕ) : Type 0 where
+  pub room : Room sh t
+  pub most : n ≤ sh .groups + 2
+  pub node : (i : ℕ) → i < n → queueOf sh t i < sh .groups + 2
+
+pub record Relabelled (sh : Shape) (t t′ : List ℕ) (n x : ℕ) : Type 0 where
+  pub only : OnlyLabels sh t t′
+  pub given : (i : ℕ) → i < n → labelOf sh t′ (queueOf sh t i) ≡ x
+  pub else : (v : ℕ) → ((i : ℕ) → i < n → queueOf sh t i ≢ v) → labelOf sh t′ v ≡ labelOf sh t v
+
+pub record Refreshed (sh : Shape) (t t′ : List ℕ) (m : ℕ) : Type 0 where
+  pub only : OnlyLabels sh t t′
+  pub fresh : (v : ℕ) → v < m → labelOf sh t′ v ≡ sh .fresh
+
+-- the step from u to its parent, where b holds
+abbrev pub Rising : Shape → Bool → ℕ → Bool → ℕ → Type 0
+Rising sh back u b e = (b ≡ true) × (e ≡ pick back u (sh .groups + sh .rows + u))
+
+abbrev pub Every : ℕ → Type 0
+Every e = e ≤ e

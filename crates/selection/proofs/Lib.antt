@@ -1,0 +1,3 @@
+-- Laws of selections and of their counts.
+pub mod SelectionLaws
+pub mod CountLaws

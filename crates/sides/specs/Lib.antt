@@ -1,0 +1,4 @@
+-- What the contracts say.
+pub mod Side
+pub mod Ready
+pub mod Found
