@@ -8,10 +8,11 @@ use Rattle.theory.specs.Lowered.{lowered}
 use Rattle.theory.specs.Incidence.{load, fits, charge}
 use Rattle.theory.specs.Network.{onSide, onBoth, fitsBoth}
 use Rattle.theory.specs.Priority.{weightOf}
-use Rattle.claimfile.specs.File.{noneAbove, groupFault, claimFault, recordsFrom, countFault, sectionAt, claimsAt, readingIn}
+use Rattle.reader.specs.Reading.{noneAbove, groupFault, claimFault, recordsFrom, countFault, sectionAt, claimsAt, readingIn}
 use Rattle.claimfile.specs.Day.{parentOf, writtenOf, limitOf, cardNode, shopNode}
 use Rattle.selection.specs.Selection.{bits}
-use Rattle.accept.specs.Accept.{covered, judged, verdict, verdictNumber}
+use Rattle.sheets.specs.Sheet.{covered}
+use Rattle.accept.specs.Accept.{judged, verdict, verdictNumber}
 use Rattle.accept.specs.Examples.{Example, examples}
 
 pub examples-told :

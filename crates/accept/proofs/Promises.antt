@@ -24,12 +24,13 @@ use Rattle.theory.proofs.LevelLaws.{choice-fits}
 use Rattle.theory.proofs.PriorityLaws.{worth-lex, two-lex}
 use Rattle.claimfile.specs.declared.Form.{Form}
 use Rattle.claimfile.specs.declared.Layout.{Layout}
-use Rattle.claimfile.specs.declared.Reading.{Reading}
-use Rattle.claimfile.specs.declared.Reading.the-variants as reading-is
-use Rattle.claimfile.specs.File.{asStored, reading}
+use Rattle.reader.specs.declared.Reading.{Reading}
+use Rattle.reader.specs.declared.Reading.the-variants as reading-is
+use Rattle.claimfile.specs.File.{asStored}
+use Rattle.reader.specs.Reading.{reading}
 use Rattle.claimfile.specs.Day.{kindOf, limitOf, networkOf, instanceOf}
-use Rattle.claimfile.proofs.AcceptedLaws.{accepted-sound, accepted-kinds}
-use Rattle.claimfile.proofs.StoredLaws.{new-stored}
+use Rattle.reader.proofs.AcceptedLaws.{accepted-sound, accepted-kinds}
+use Rattle.reader.proofs.StoredLaws.{new-stored}
 use Rattle.closing.specs.Settle.{markOf, claimMarkOf, Settles}
 use Rattle.closing.specs.declared.Settled.{Settled}
 use Rattle.closing.specs.declared.Settled.the-variants.{Closed}
@@ -37,7 +38,8 @@ use Rattle.closing.specs.declared.Totals.{Totals}
 use Rattle.closing.proofs.Demand as demand
 use Rattle.closing.proofs.SettleLaws.{day-formed}
 use Rattle.accept.specs.declared.Verdict.{Verdict}
-use Rattle.accept.specs.Accept.{verdictBy, verdict, verdictNumber, weights, Accepts, Acceptable, Judges}
+use Rattle.sheets.specs.Sheet.{weights}
+use Rattle.accept.specs.Accept.{verdictBy, verdict, verdictNumber, Accepts, Acceptable, Judges}
 
 -- whoever made the sheet
 module _

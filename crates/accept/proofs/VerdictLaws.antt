@@ -18,12 +18,13 @@ use Rattle.theory.specs.Incidence.{Selection}
 use Rattle.theory.specs.Matroid.{row}
 use Rattle.theory.specs.Network.{Instance, fitsBoth}
 use Rattle.theory.proofs.TestLaws.{either, both-true, true-both}
-use Rattle.claimfile.specs.File.{firstTerms, days, reading}
+use Rattle.claimfile.specs.File.{firstTerms, days}
+use Rattle.reader.specs.Reading.{reading}
 use Rattle.claimfile.specs.Day.{networkOf, instanceOf}
 use Rattle.claimfile.specs.declared.Form.{Form}
 use Rattle.claimfile.specs.declared.Layout.{Layout}
-use Rattle.claimfile.specs.declared.Reading.{Reading}
-use Rattle.claimfile.specs.declared.Reading.the-variants as reading-is
+use Rattle.reader.specs.declared.Reading.{Reading}
+use Rattle.reader.specs.declared.Reading.the-variants as reading-is
 use Rattle.refusal.specs.declared.Reason.{Reason}
 use Rattle.refusal.specs.declared.Reason.the-variants.{File, Short, Day, Value, Unfit, Uncovered, Unequal}
 use Rattle.refusal.proofs.TableLaws.{number-some}
@@ -34,11 +35,13 @@ use Rattle.sides.specs.declared.Found.{Found}
 use Rattle.closing.specs.Settle.{needed}
 use Rattle.accept.specs.declared.Verdict.{Verdict}
 use Rattle.accept.specs.declared.Verdict.the-variants.{Accepted, Refused}
-use Rattle.accept.specs.Accept.{covered, judged, sheetTotal, weightKept, Accepts, verdictBy, verdict, verdictNumber}
+use Rattle.sheets.specs.Sheet.{covered, sheetTotal}
+use Rattle.accept.specs.Accept.{judged, weightKept, Accepts, verdictBy, verdict, verdictNumber}
 use Rattle.accept.specs.Accept.{Acceptable, Judges}
 use Rattle.closing.specs.Close.{Countable}
-use Rattle.accept.specs.Judge.{Sheeted, Judgeable}
-use Rattle.accept.proofs.CoverLaws.{covered-true, true-covered}
+use Rattle.sheets.specs.Judge.{Sheeted}
+use Rattle.accept.specs.Judgeable.{Judgeable}
+use Rattle.sheets.proofs.CoverLaws.{covered-true, true-covered}
 
 -- a verdict with a number is not Accepted
 refused : {A : Type 0} (x : Verdict) (why : Reason) → x ≡ Accepted → x ≡ Refused why → A

@@ -1,13 +1,9 @@
 -- Which closings head office accepts, however they were made (document 02, E10). A closing is a file with a choice and a sheet of
 -- marks.
 -- Of a day, which is an instance i:
---   weights i              the weight of each row
---   sheetTotal i sheet     the sheet's total
 --   weightKept i ch        the weight of the rows that the choice keeps
 --   Accepts i ch sheet     the closing is to be accepted: the choice fits both sides, every claim is covered, and the sheet's
 --                          total is the weight kept
---   covers i sheet c       the test whether row c is covered
---   covered i sheet        the test whether every row is
 --   judged i ch sheet      the verdict on a choice of 0s and 1s and a sheet that are long enough: 13, 14, 15 in this order
 -- Of a file, in the form f:
 --   verdictBy s x ch sheet     the verdict on a file s with the reading x: its first fault, then 8, 12, 9, then that on its day
@@ -21,57 +17,44 @@
 use mathlib.Core.Path.{_≡_}
 use mathlib.Core.Logic.{_↔_}
 use mathlib.Core.List.{List}
-use mathlib.Core.Bool.{Bool}
-use Prim.Native.Nat.{ℕ, _+_, _≤_, _<_}
+use Prim.Native.Nat.{ℕ, _≤_, _<_}
 use lib.Dec.{ltb, leb, eqb}
 use lib.ListN.{length}
-use Rattle.theory.specs.Sum.{pick, every}
-use Rattle.theory.specs.Incidence.{charge, Covers, total, worth}
+use Rattle.theory.specs.Sum.{pick}
+use Rattle.theory.specs.Incidence.{Covers, worth}
 use Rattle.theory.specs.Matroid.{row}
 use Rattle.theory.specs.Network.{Instance, Choice, onBoth, fitsBoth}
-use Rattle.theory.specs.Priority.{weightOf}
-use Rattle.claimfile.specs.File.{days, reading}
+use Rattle.claimfile.specs.File.{days}
+use Rattle.reader.specs.Reading.{reading}
 use Rattle.claimfile.specs.Day.{networkOf, instanceOf}
 use Rattle.claimfile.specs.declared.Form.{Form}
 use Rattle.claimfile.specs.declared.Layout.{Layout}
-use Rattle.claimfile.specs.declared.Reading.{Reading}
-use Rattle.claimfile.specs.declared.Reading.the-variants as reading-is
+use Rattle.reader.specs.declared.Reading.{Reading}
+use Rattle.reader.specs.declared.Reading.the-variants as reading-is
 use Rattle.refusal.specs.declared.Reason.the-variants.{File, Short, Day, Value, Unfit, Uncovered, Unequal}
 use Rattle.refusal.specs.Table.{numberOf}
 use Rattle.selection.specs.Selection.{bits}
 use Rattle.closing.specs.Settle.{needed, markOf, claimMarkOf}
+use Rattle.sheets.specs.Sheet.{weights, sheetTotal, covered}
 use Rattle.accept.specs.declared.Verdict.{Verdict}
 use Rattle.accept.specs.declared.Verdict.the-variants.{Accepted, Refused}
 
 module _ (i : Instance) where
-  abbrev pub weights : ℕ → ℕ
-  weights = weightOf (i .net .rows) (i .kind)
-
-  abbrev pub sheetTotal : List ℕ → ℕ
-  sheetTotal sheet = total (i .net .rows) (i .net .groups) (i .limit) (markOf sheet) (claimMarkOf (i .net) sheet)
-
   abbrev pub weightKept : List ℕ → ℕ
-  weightKept ch = worth (i .net .rows) weights (row ch)
+  weightKept ch = worth (i .net .rows) (weights i) (row ch)
 
   -- "the choice, read as a selection, fits both sides, every claim is covered and the sheet's total equals the weight kept"
   pub record Accepts (ch sheet : List ℕ) : Type 0 where
     pub choice : Choice (i .net) (i .limit) (row ch)
-    pub cover : Covers (i .net .rows) (i .net .groups) (onBoth (i .net)) (markOf sheet) (claimMarkOf (i .net) sheet) weights
-    pub equal : sheetTotal sheet ≡ weightKept ch
-
-  abbrev pub covers : List ℕ → ℕ → Bool
-  covers sheet c =
-      leb (weights c) (claimMarkOf (i .net) sheet c + charge (i .net .groups) (onBoth (i .net)) (markOf sheet) c)
-
-  unfoldable pub covered : List ℕ → Bool
-  covered sheet = every (i .net .rows) (covers sheet)
+    pub cover : Covers (i .net .rows) (i .net .groups) (onBoth (i .net)) (markOf sheet) (claimMarkOf (i .net) sheet) (weights i)
+    pub equal : sheetTotal i sheet ≡ weightKept ch
 
   -- "13, the choice does not fit; 14, a claim is not covered; 15, the totals differ; judged in this order"
   unfoldable pub judged : List ℕ → List ℕ → Verdict
   judged ch sheet =
       pick (fitsBoth (i .net) (i .limit) (row ch))
-      (pick (covered sheet)
-      (pick (eqb (sheetTotal sheet) (weightKept ch)) Accepted (Refused Unequal))
+      (pick (covered i sheet)
+      (pick (eqb (sheetTotal i sheet) (weightKept ch)) Accepted (Refused Unequal))
       (Refused Uncovered))
       (Refused Unfit)
 

@@ -1,42 +1,38 @@
 // Which closings head office accepts, however they were made.
 //
 // A closing is a file with a choice and a sheet of marks. `accept` takes any bytes, in a form, and any choice and sheet;
-// `accept_on` does the same for a file that is accepted with a known layout. Nothing is changed. One table has a cell of 16 bits
-// for each group. It takes the prices of the groups, by which the claims are covered or not (`cover`), and then their limits, for
-// the sheet's total (`total`). The cost is rows + groups; the table is all the memory.
-mod cover;
-mod total;
-
+// `accept_on` does the same for a file that is accepted with a known layout. Nothing is changed. Whether a sheet covers the claims,
+// and its total, crate `sheets` tells, in one table with a cell of 16 bits for each group. The cost is rows + groups; the table is
+// all the memory.
 ghost use mathlib.Core.Bool.{true};
 ghost use mathlib.Core.Path.{_≡_};
-ghost use Prim.Native.Nat.{_<_, _≤_};
-ghost use Rattle.theory.specs.Bounds.{maxLimit, cellBound};
 ghost use Rattle.theory.specs.Matroid.{row};
 ghost use Rattle.theory.specs.Network.{fitsBoth};
 ghost use Rattle.claimfile.specs.Day.{limitOf, networkOf, instanceOf};
 ghost use Rattle.claimfile.specs.File.{firstTerms};
 ghost use Rattle.claimfile.specs.Sound.{Sound, Kinds};
 ghost use Rattle.closing.specs.Close.{Countable};
-ghost use Rattle.claimfile.specs.declared.Reading.the-variants.{Accepted};
+ghost use Rattle.reader.specs.declared.Reading.the-variants.{Accepted};
 ghost use Rattle.sides.specs.Ready.{Ready};
 ghost use Rattle.accept.specs.Accept.{judged, weightKept, verdictBy, verdictNumber, Judges};
-ghost use Rattle.accept.specs.Judge.{Judgeable};
+ghost use Rattle.accept.specs.Judgeable.{Judgeable};
 use claimfile::DAYS;
 use claimfile::Form;
 use claimfile::Layout;
-use claimfile::Reading;
-use claimfile::read;
 use closing::marks_of;
 use closing::totals_of;
-use cover::is_covered;
 use instance::CARD_SIDE;
 use instance::SHOP_SIDE;
+use reader::Reading;
+use reader::read;
 use refusal::Reason;
 use refusal::number;
 use selection::all_bits;
+use sheets::cover::is_covered;
+use sheets::long;
+use sheets::total::total_of;
 use sides::rank_on;
 use theory::MAX_GROUPS;
-use total::total_of;
 
 // A cell for each group of both sides, and one for each root.
 const NODES: usize = 2 * MAX_GROUPS + 2;
@@ -45,25 +41,6 @@ const NODES: usize = 2 * MAX_GROUPS + 2;
 pub enum Verdict {
     Accepted,
     Refused(Reason),
-}
-
-// A mark, a size and a cell of the table as numbers of 64 bits.
-fn wide(x: u32) -> u64
-    ensures { λ r. ⌜ (r ≡ x) × (r < cellBound) ⌝ }
-{
-    x as u64
-}
-
-fn long(x: usize) -> u64
-    ensures { λ r. ⌜ r ≡ x ⌝ }
-{
-    x as u64
-}
-
-fn cell(x: u16) -> u64
-    ensures { λ r. ⌜ (r ≡ x) × (r ≤ maxLimit) ⌝ }
-{
-    x as u64
 }
 
 // The weight of the kept rows.

@@ -22,19 +22,20 @@ use lib.Dec.{ltb, leb}
 use borrow.Author.Tests.{lt-ltb, le-ltb}
 use Rattle.theory.specs.Bounds.{maxGroups}
 use Rattle.theory.specs.Sum.{every}
-use Rattle.claimfile.specs.File.{days, columns, word, limitAt, groupAt, orElse, noneAbove, groupFault, groupsFrom}
-use Rattle.claimfile.specs.File.{countFault, sectionOf, sectionBy, sectionAt}
+use Rattle.claimfile.specs.File.{days, columns, word, limitAt, groupAt}
+use Rattle.reader.specs.Reading.{orElse, noneAbove, groupFault, groupsFrom}
+use Rattle.reader.specs.Reading.{countFault, sectionOf, sectionBy, sectionAt}
 use Rattle.claimwriter.specs.Written.{onDayOf, bytesOf, groupBytes, records, section}
 use Rattle.claimwriter.specs.Widened.{sevenDays, widenRecord, widenRecords, widenSection}
 use Rattle.claimwriter.specs.Put.{Holds}
 use Rattle.claimfile.specs.declared.Form.{Form}
-use Rattle.claimfile.specs.declared.Refusal.{Refusal}
-use Rattle.claimfile.specs.declared.Refusal.the-variants.{GroupCount}
-use Rattle.claimfile.specs.declared.Checked.{Checked}
-use Rattle.claimfile.specs.declared.Checked.the-variants.{Fine}
+use Rattle.reader.specs.declared.Refusal.{Refusal}
+use Rattle.reader.specs.declared.Refusal.the-variants.{GroupCount}
+use Rattle.reader.specs.declared.Checked.{Checked}
+use Rattle.reader.specs.declared.Checked.the-variants.{Fine}
 use Rattle.claimfile.specs.declared.Group.{Group}
-use Rattle.claimfile.proofs.AcceptedLaws.{section-read}
-use Rattle.claimfile.proofs.SectionLaws.{records-same, fault-alike, word-part}
+use Rattle.reader.proofs.AcceptedLaws.{section-read}
+use Rattle.reader.proofs.SectionLaws.{records-same, fault-alike, word-part}
 use Rattle.claimwriter.proofs.PutLaws.{holds-first, holds-second, holds-record, records-length, group-length}
 use Rattle.claimwriter.proofs.WrittenLaws.{word-back, group-back, section-length}
 

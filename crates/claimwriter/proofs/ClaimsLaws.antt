@@ -11,23 +11,24 @@ use Prim.Native.Nat.{ℕ, zero, suc, _+_, _*_, _<_, _≤_}
 use native.Mathlib.Omega.{arith}
 use lib.ListN.{length, drop, length-drop}
 use Rattle.theory.specs.Bounds.{maxRows}
-use Rattle.claimfile.specs.File.{firstTerms, columnOf, groupWidth, claimWidth, word, claimFault, rowsFrom}
-use Rattle.claimfile.specs.File.{sectionAt, claimsAt, reading}
-use Rattle.claimfile.specs.Sections.{behind, placeOn, OwnBytes, withRows}
+use Rattle.claimfile.specs.File.{firstTerms, columnOf, groupWidth, claimWidth, word}
+use Rattle.reader.specs.Reading.{claimFault, rowsFrom}
+use Rattle.reader.specs.Reading.{sectionAt, claimsAt, reading}
+use Rattle.reader.specs.Sections.{behind, placeOn, OwnBytes, withRows}
 use Rattle.claimfile.specs.Day.{countOf, groupOf, claims, claimOf, namedCard, namedShop, kindOf}
 use Rattle.claimfile.specs.Sound.{Sound}
 use Rattle.claimwriter.specs.Put.{rowCountPlace}
 use Rattle.claimfile.specs.declared.Form.{Form}
-use Rattle.claimfile.specs.declared.Refusal.the-variants.{ClaimCount}
-use Rattle.claimfile.specs.declared.Checked.the-variants.{Fine}
-use Rattle.claimfile.specs.declared.Section.the-variants.{Read}
-use Rattle.claimfile.specs.declared.Reading.{Reading}
-use Rattle.claimfile.specs.declared.Reading.the-variants.{Accepted}
+use Rattle.reader.specs.declared.Refusal.the-variants.{ClaimCount}
+use Rattle.reader.specs.declared.Checked.the-variants.{Fine}
+use Rattle.reader.specs.declared.Section.the-variants.{Read}
+use Rattle.reader.specs.declared.Reading.{Reading}
+use Rattle.reader.specs.declared.Reading.the-variants.{Accepted}
 use Rattle.claimfile.specs.declared.Layout.{Layout}
-use Rattle.claimfile.proofs.FileLaws.{claim-passes, records-pass, accepted}
+use Rattle.reader.proofs.FileLaws.{claim-passes, records-pass, accepted}
 use Rattle.claimfile.proofs.WidthLaws.{width-split, width-inside, column-small}
-use Rattle.claimfile.proofs.AcceptedLaws.{accepted-week, accepted-day, accepted-sections, accepted-sound}
-use Rattle.claimfile.proofs.SectionLaws.{group-own, section-own}
+use Rattle.reader.proofs.AcceptedLaws.{accepted-week, accepted-day, accepted-sections, accepted-sound}
+use Rattle.reader.proofs.SectionLaws.{group-own, section-own}
 use Rattle.claimwriter.proofs.PutLaws.{same-cell}
 use Rattle.claimwriter.proofs.WrittenLaws.{section-passes}
 

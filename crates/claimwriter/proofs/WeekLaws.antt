@@ -11,15 +11,16 @@ use Prim.Native.Nat.{ℕ, zero, suc, _+_, _*_, _≤_, _<_}
 use native.Mathlib.Decide.{decLt}
 use native.Mathlib.Omega.{arith}
 use lib.ListN.{length, getD, drop, length-drop, List·getD-eq-default}
-use Rattle.claimfile.specs.File.{firstTerms, days, columnOf, claimWidth, word, recordAt, claimAt, reading}
+use Rattle.claimfile.specs.File.{firstTerms, days, columnOf, claimWidth, word, recordAt, claimAt}
+use Rattle.reader.specs.Reading.{reading}
 use Rattle.claimfile.specs.Day.{countOf, groupOf, claimOf, instanceOf, onDay}
 use Rattle.claimfile.specs.Sound.{Sound, Kinds, NoneAbove}
 use Rattle.claimwriter.specs.Written.{Contents, recordsOn, TwoSided, Ranged, Proper}
 use Rattle.claimwriter.specs.Week.{weekForm, contentsIn, asWeek, weekLayout}
 use Rattle.claimfile.specs.declared.Form.{Form}
 use Rattle.claimfile.specs.declared.Layout.{Layout}
-use Rattle.claimfile.specs.declared.Reading.the-variants.{Accepted}
-use Rattle.claimfile.proofs.AcceptedLaws.{accepted-day, accepted-sound, accepted-kinds, new-below}
+use Rattle.reader.specs.declared.Reading.the-variants.{Accepted}
+use Rattle.reader.proofs.AcceptedLaws.{accepted-day, accepted-sound, accepted-kinds, new-below}
 use Rattle.claimfile.proofs.DayLaws.{word-small}
 use Rattle.claimwriter.proofs.WrittenLaws.{written-accepted, written-group, written-claim, written-bytes}
 use Rattle.claimfile.proofs.SameLaws.{same-day}

@@ -19,10 +19,11 @@ use lib.Seq.{getD-drop, drop-drop, ext-getD}
 use lib.Dec.{ltb}
 use borrow.Author.Tests.{lt-ltb, le-ltb}
 use Rattle.theory.specs.Bounds.{maxRows}
-use Rattle.claimfile.specs.File.{firstTerms, columnOf, groupWidth, claimWidth, word, limitAt, recordAt, claimAt, orElse, rowsFrom}
-use Rattle.claimfile.specs.File.{countFault, sectionOf, sectionAt, claimsAt, afterCards, afterShops, afterClaims}
-use Rattle.claimfile.specs.File.{readingIn, reading}
-use Rattle.claimfile.specs.Sections.{behind, placeOn}
+use Rattle.claimfile.specs.File.{firstTerms, columnOf, groupWidth, claimWidth, word, limitAt, recordAt, claimAt}
+use Rattle.reader.specs.Reading.{orElse, rowsFrom}
+use Rattle.reader.specs.Reading.{countFault, sectionOf, sectionAt, claimsAt, afterCards, afterShops, afterClaims}
+use Rattle.reader.specs.Reading.{readingIn, reading}
+use Rattle.reader.specs.Sections.{behind, placeOn}
 use Rattle.claimfile.specs.Day.{claimOf}
 use Rattle.claimfile.specs.Sound.{Sound}
 use Rattle.claimwriter.specs.Written.{weekGroup, bytesOf, groupBytes, claimBytes, section, fileBytes}
@@ -30,16 +31,16 @@ use Rattle.claimwriter.specs.Put.{Holds}
 use Rattle.claimwriter.specs.Week.{weekForm, asWeek}
 use Rattle.claimwriter.specs.Widened.{widenSection, widened, widenedBy}
 use Rattle.claimfile.specs.declared.Form.{Form}
-use Rattle.claimfile.specs.declared.Refusal.{Refusal}
-use Rattle.claimfile.specs.declared.Refusal.the-variants.{ClaimCount}
-use Rattle.claimfile.specs.declared.Checked.{Checked}
-use Rattle.claimfile.specs.declared.Checked.the-variants.{Fine, Fault}
-use Rattle.claimfile.specs.declared.Reading.{Reading}
-use Rattle.claimfile.specs.declared.Reading.the-variants.{Accepted, Refused}
+use Rattle.reader.specs.declared.Refusal.{Refusal}
+use Rattle.reader.specs.declared.Refusal.the-variants.{ClaimCount}
+use Rattle.reader.specs.declared.Checked.{Checked}
+use Rattle.reader.specs.declared.Checked.the-variants.{Fine, Fault}
+use Rattle.reader.specs.declared.Reading.{Reading}
+use Rattle.reader.specs.declared.Reading.the-variants.{Accepted, Refused}
 use Rattle.claimfile.specs.declared.Layout.{Layout}
-use Rattle.claimfile.proofs.AcceptedLaws.{not-both, section-read}
-use Rattle.claimfile.proofs.AcceptedLaws.{accepted-week, accepted-sections, accepted-sound, accepted-rows}
-use Rattle.claimfile.proofs.SectionLaws.{word-part, cut-part}
+use Rattle.reader.proofs.AcceptedLaws.{not-both, section-read}
+use Rattle.reader.proofs.AcceptedLaws.{accepted-week, accepted-sections, accepted-sound, accepted-rows}
+use Rattle.reader.proofs.SectionLaws.{word-part, cut-part}
 use Rattle.claimwriter.proofs.PutLaws.{same-cell, holds-append}
 use Rattle.claimwriter.proofs.WrittenLaws.{section-length, holds-section}
 use Rattle.claimwriter.proofs.AlikeLaws.{section-whole, section-alike, Follows, groupsChecked, groups-alike, follows-groups}

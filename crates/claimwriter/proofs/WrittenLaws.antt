@@ -19,27 +19,28 @@ use native.Mathlib.Omega.{arith}
 use lib.ListN.{length, getD, take, drop, length-append, length-drop}
 use Rattle.theory.specs.Bounds.{maxGroups, maxRows}
 use Rattle.claimfile.specs.File.{storedWeek, days, columns, columnOf, groupWidth, claimWidth}
-use Rattle.claimfile.specs.File.{firstTerms, word, limitAt, recordAt, groupAt, claimAt, noneAbove, groupFault, claimFault}
-use Rattle.claimfile.specs.File.{sectionBy, sectionAt, claimsAt, reading}
+use Rattle.claimfile.specs.File.{firstTerms, word, limitAt, recordAt, groupAt, claimAt}
+use Rattle.reader.specs.Reading.{noneAbove, groupFault, claimFault}
+use Rattle.reader.specs.Reading.{sectionBy, sectionAt, claimsAt, reading}
 use Rattle.claimfile.specs.Day.{startOf, groupOf, onDay, claims, claimOf}
 use Rattle.claimfile.specs.Sound.{SmallerOrTop, Sound}
 use Rattle.claimwriter.specs.Written.{WeekGroup, onDayOf, Contents, recordsOn, bytesOf, groupBytes, claimBytes, records, section}
 use Rattle.claimwriter.specs.Written.{fileBytes, layoutOf, lengthOf, TwoSided, Ranged, Proper, SameContents}
 use Rattle.claimwriter.specs.Put.{Holds, countPlace, rowCountPlace, groupPlace, claimPlace, Begun}
 use Rattle.claimfile.specs.declared.Form.{Form}
-use Rattle.claimfile.specs.declared.Refusal.{Refusal}
-use Rattle.claimfile.specs.declared.Refusal.the-variants.{GroupCount, ClaimCount}
-use Rattle.claimfile.specs.declared.Checked.{Checked}
-use Rattle.claimfile.specs.declared.Checked.the-variants.{Fine}
-use Rattle.claimfile.specs.declared.Section.the-variants.{Read}
-use Rattle.claimfile.specs.declared.Reading.the-variants.{Accepted}
+use Rattle.reader.specs.declared.Refusal.{Refusal}
+use Rattle.reader.specs.declared.Refusal.the-variants.{GroupCount, ClaimCount}
+use Rattle.reader.specs.declared.Checked.{Checked}
+use Rattle.reader.specs.declared.Checked.the-variants.{Fine}
+use Rattle.reader.specs.declared.Section.the-variants.{Read}
+use Rattle.reader.specs.declared.Reading.the-variants.{Accepted}
 use Rattle.claimfile.specs.declared.Layout.{Layout}
 use Rattle.claimfile.specs.declared.Group.{Group}
 use Rattle.claimfile.specs.declared.Claim.{Claim}
 use Rattle.theory.proofs.TestLaws.{either}
-use Rattle.claimfile.proofs.FileLaws.{above-none, group-top, group-stored, group-new}
-use Rattle.claimfile.proofs.FileLaws.{claim-passes, records-pass, count-fits, section-fits, accepted}
-use Rattle.claimfile.proofs.AcceptedLaws.{one-layout, accepted-sound}
+use Rattle.reader.proofs.FileLaws.{above-none, group-top, group-stored, group-new}
+use Rattle.reader.proofs.FileLaws.{claim-passes, records-pass, count-fits, section-fits, accepted}
+use Rattle.reader.proofs.AcceptedLaws.{one-layout, accepted-sound}
 use Rattle.claimwriter.proofs.PutLaws.{same-cell, holds-self, holds-take, holds-drop}
 use Rattle.claimwriter.proofs.PutLaws.{holds-first, holds-second, holds-append}
 use Rattle.claimwriter.proofs.PutLaws.{records-length, holds-record, holds-records, records-same, group-length, group-same}

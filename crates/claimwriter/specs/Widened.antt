@@ -14,8 +14,8 @@ use mathlib.Core.Bool.{false}
 use lib.ListN.{length, drop}
 use lib.Dec.{ltb}
 use Rattle.theory.specs.Sum.{pick}
-use Rattle.claimfile.specs.declared.Reading.{Reading}
-use Rattle.claimfile.specs.declared.Reading.the-variants.{Accepted, Refused}
+use Rattle.reader.specs.declared.Reading.{Reading}
+use Rattle.reader.specs.declared.Reading.the-variants.{Accepted, Refused}
 use Rattle.claimfile.specs.File.{groupWidth, word, limitAt}
 use Rattle.claimwriter.specs.Written.{WeekGroup, weekGroup, bytesOf, groupBytes}
 use Rattle.claimwriter.specs.Week.{weekLayout}

@@ -19,7 +19,7 @@ const SHEET: usize = 2 * MAX_GROUPS + MAX_ROWS;
 
 const SCRATCH: usize = 6 * (2 * MAX_GROUPS) + 3 * MAX_ROWS;
 
-// The longest file has 10,758 bytes (`longest` in claimfile/proofs/AcceptedLaws.antt); one more is read, so that a byte too many is seen.
+// The longest file has 10,758 bytes (`longest` in reader/proofs/AcceptedLaws.antt); one more is read, so that a byte too many is seen.
 fn file_buffer() -> [u8; 10759]
     ensures { λ r. ⌜ lengthFor maxGroups maxGroups maxRows + 1 ≡ length r ⌝ }
 {

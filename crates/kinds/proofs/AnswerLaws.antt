@@ -13,12 +13,13 @@ use Rattle.theory.specs.Matroid.{row}
 use Rattle.theory.specs.Network.{Instance}
 use Rattle.theory.specs.Priority.{kept}
 use Rattle.claimfile.specs.declared.Layout.{Layout}
-use Rattle.claimfile.specs.declared.Refusal.{Refusal}
-use Rattle.claimfile.specs.declared.Reading.{Reading}
-use Rattle.claimfile.specs.declared.Reading.the-variants as reading-is
-use Rattle.claimfile.specs.File.{secondTerms, days, readingKinds}
+use Rattle.reader.specs.declared.Refusal.{Refusal}
+use Rattle.reader.specs.declared.Reading.{Reading}
+use Rattle.reader.specs.declared.Reading.the-variants as reading-is
+use Rattle.claimfile.specs.File.{secondTerms, days}
+use Rattle.reader.specs.Reading.{readingKinds}
 use Rattle.claimfile.specs.Day.{instanceOf}
-use Rattle.claimfile.proofs.AcceptedLaws.{one-layout, one-refusal, not-both}
+use Rattle.reader.proofs.AcceptedLaws.{one-layout, one-refusal, not-both}
 use Rattle.refusal.specs.declared.Reason.the-variants.{File, Short, Day}
 use Rattle.kinds.specs.declared.KindTotals.{KindTotals}
 use Rattle.kinds.specs.declared.SettledKinds.{SettledKinds}

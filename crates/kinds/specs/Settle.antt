@@ -23,10 +23,11 @@ use Rattle.theory.specs.Incidence.{size, worth}
 use Rattle.theory.specs.Network.{Instance}
 use Rattle.theory.specs.Priority.{kept, weightOf}
 use Rattle.claimfile.specs.declared.Layout.{Layout}
-use Rattle.claimfile.specs.declared.Refusal.{Refusal}
-use Rattle.claimfile.specs.declared.Reading.{Reading}
-use Rattle.claimfile.specs.declared.Reading.the-variants as reading-is
-use Rattle.claimfile.specs.File.{secondTerms, days, readingKinds}
+use Rattle.reader.specs.declared.Refusal.{Refusal}
+use Rattle.reader.specs.declared.Reading.{Reading}
+use Rattle.reader.specs.declared.Reading.the-variants as reading-is
+use Rattle.claimfile.specs.File.{secondTerms, days}
+use Rattle.reader.specs.Reading.{readingKinds}
 use Rattle.claimfile.specs.Day.{instanceOf}
 use Rattle.refusal.specs.declared.Reason.the-variants.{File, Short, Day}
 use Rattle.refusal.specs.Table as table

@@ -14,11 +14,11 @@ ghost use Rattle.closing.specs.Close.{Countable, Lent, SettlementIn, CountedIn,
 ghost use Rattle.kinds.specs.Settle.{countOf, SettlesKindsOn, SettlesKinds};
 use claimfile::DAYS;
 use claimfile::Layout;
-use claimfile::Reading;
-use claimfile::read_kinds;
 use closing::marks_of;
 use closing::scratch_of;
 use instance::power;
+use reader::Reading;
+use reader::read_kinds;
 use refusal::Reason;
 use scratch::cells::CELL_BOUND;
 use scratch::clear::clear_wide;

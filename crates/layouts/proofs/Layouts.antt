@@ -1,7 +1,7 @@
 -- Document 02, E9: "Old-layout files, new or stored, .. act as ones with the same limit on seven days." For every accepted file s in a form f, of
 -- either layout, its week file is `asWeek s l` (claimwriter/specs/Week.antt), taken in the form `weekForm f`: each limit of an old-layout file is
 -- written seven times. Both hold the same day (`week-day`) and the same claims, and every answer is decided by these. Of fits and rank and of
--- spare places it is `ranked-week` and `spare-week` (limits/proofs/WeekLaws.antt).
+-- spare places it is `ranked-week` (limits/proofs/WeekLaws.antt) and `spare-week` (spare/proofs/WeekLaws.antt).
 --   settled-across, codes-across   two days that need the same lengths, and that are one where the week has the day, are promised the same
 --   old-days                       an old-layout file holds the same day on every day of the week
 --   settles-week                   what settle answers and leaves for the one is what it promises for the other
@@ -23,12 +23,13 @@ use Rattle.theory.specs.Network.{Instance}
 use Rattle.claimfile.specs.declared.Form.{Form}
 use Rattle.claimfile.specs.declared.Layout.{Layout}
 use Rattle.claimfile.specs.declared.Claim.{Claim}
-use Rattle.claimfile.specs.declared.Reading.{Reading}
-use Rattle.claimfile.specs.declared.Reading.the-variants.{Accepted}
-use Rattle.claimfile.specs.File.{days, reading}
+use Rattle.reader.specs.declared.Reading.{Reading}
+use Rattle.reader.specs.declared.Reading.the-variants.{Accepted}
+use Rattle.claimfile.specs.File.{days}
+use Rattle.reader.specs.Reading.{reading}
 use Rattle.claimfile.specs.Day.{claimOf, networkOf, instanceOf, onDay, limitOf, writtenOf, parentOf, cardNode, shopNode}
 use Rattle.claimwriter.specs.Week.{weekForm, asWeek, weekLayout}
-use Rattle.claimfile.proofs.AcceptedLaws.{one-layout}
+use Rattle.reader.proofs.AcceptedLaws.{one-layout}
 use Rattle.claimwriter.proofs.WeekLaws.{week-accepted, week-claim, week-day}
 use Rattle.refusal.specs.declared.Reason.the-variants.{Short, Day, Value}
 use Rattle.refusal.specs.declared.Written.{Written}

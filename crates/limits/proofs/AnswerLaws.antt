@@ -14,13 +14,13 @@ use Rattle.theory.specs.Incidence.{Selection}
 use Rattle.theory.specs.Matroid.{Rank, row}
 use Rattle.theory.specs.Network.{FitsSide}
 use Rattle.theory.proofs.SumLaws.{sum-bound}
-use Rattle.claimfile.specs.File.{readingIn}
+use Rattle.reader.specs.Reading.{readingIn}
 use Rattle.claimfile.specs.Day.{instanceOf}
 use Rattle.claimfile.specs.declared.Form.{Form}
 use Rattle.claimfile.specs.declared.Layout.{Layout}
-use Rattle.claimfile.specs.declared.Reading.{Reading}
-use Rattle.claimfile.specs.declared.Reading.the-variants as reading-is
-use Rattle.claimfile.proofs.AcceptedLaws.{accords-in}
+use Rattle.reader.specs.declared.Reading.{Reading}
+use Rattle.reader.specs.declared.Reading.the-variants as reading-is
+use Rattle.reader.proofs.AcceptedLaws.{accords-in}
 use Rattle.refusal.specs.declared.Reason.{Reason}
 use Rattle.refusal.specs.declared.Reason.the-variants.{File, Value}
 use Rattle.refusal.proofs.TableLaws.{number-some}

@@ -1,55 +1,40 @@
--- What the calls answer (document 01, "Calls and lent memory" and "Turned-away files").
--- Of an instance i, which is what an accepted file holds:
---   SparesOn i sel x n     n is how many further claims like row x would fit beside the selection, and what that means
--- Of a file, in the form f:
+-- What fits and rank answers (document 01, "Calls and lent memory" and "Turned-away files"), of a file in the form f.
 --   enteredBy sel reading, enteredIn K f s sel  a file with K kinds and a selection: turned away with the file's refusal, then 8, then
 --                          12, then 9, else the file's layout
 --   entered f s sel        the same under the first terms
 --   rankedBy s sel side entry, rankedIn K f s sel side   the answer of fits and rank
 --   ranked f s sel side    the same under the first terms
---   spareBy s sel x entry, spare f s sel x           the answer of spare places
---   rankedNumbers r, spareNumbers r      document 01's number and values for each case of an answer: the refusal's number and zeros,
---                          or 0 with yes (1) or no (0) and the rank, or 0 with the number of places
+--   rankedNumbers r        document 01's number and values for each case of an answer: the refusal's number and zeros, or 0 with yes (1)
+--                          or no (0) and the rank
 --   AnsweredIn K f s sel side r    r is the answer of fits and rank, in document 01's number and values too; the rank is at most 512.
 --                          Where no refusal is told of an accepted file, the values mean what `Told` says of the day that it holds
 --   Answered f s sel side r    the same under the first terms
 --   AnsweredKinds d s sel side r   the same under the second terms: a new file in the week layout, for day d
---   Spared f s sel x r     the same of spare places: at most 65535, the row is not in the selection, and the number means what
---                          `Spares` says
--- "Then 7, 8, 9": 8 for a selection that is shorter than needed; 9 for a selection byte over 1, a side over 1, a row not below N. Then 10,
--- the row is already in the selection. Document 02, E9: "12, the day is over 6, judged after 8 and before 9."
+-- "Then 7, 8, 9": 8 for a selection that is shorter than needed; 9 for a selection byte over 1, a side over 1. Document 02, E9: "12, the
+-- day is over 6, judged after 8 and before 9."
 use Prim.Native.Nat.{ℕ, _≤_}
 use mathlib.Core.Path.{_≡_}
 use mathlib.Core.List.{List}
-use mathlib.Core.Bool.{Bool}
 use lib.ListN.{length}
-use lib.Dec.{ltb, leb, eqb}
-use Rattle.theory.specs.Bounds.{maxRows, maxLimit}
+use lib.Dec.{ltb, leb}
+use Rattle.theory.specs.Bounds.{maxRows}
 use Rattle.theory.specs.Sum.{pick}
-use Rattle.theory.specs.Matroid.{row}
-use Rattle.theory.specs.Network.{Instance}
-use Rattle.theory.specs.Spare.{sparePlaces, Spares}
 use Rattle.answers.specs.declared.FitsAndRankAnswer.{FitsAndRankAnswer}
-use Rattle.answers.specs.declared.SparePlacesAnswer.{SparePlacesAnswer}
-use Rattle.claimfile.specs.File.{firstTerms, secondTerms, newWeek, days, readingIn, reading}
-use Rattle.claimfile.specs.Day.{limitOf, networkOf, instanceOf}
+use Rattle.claimfile.specs.File.{firstTerms, secondTerms, newWeek, days}
+use Rattle.reader.specs.Reading.{readingIn}
+use Rattle.claimfile.specs.Day.{instanceOf}
 use Rattle.claimfile.specs.declared.Form.{Form}
 use Rattle.claimfile.specs.declared.Layout.{Layout}
-use Rattle.claimfile.specs.declared.Reading.{Reading}
-use Rattle.claimfile.specs.declared.Reading.the-variants as reading-is
+use Rattle.reader.specs.declared.Reading.{Reading}
+use Rattle.reader.specs.declared.Reading.the-variants as reading-is
 use Rattle.selection.specs.Selection.{bits}
-use Rattle.refusal.specs.declared.Reason.the-variants.{File, Short, Day, Value, Selected}
+use Rattle.refusal.specs.declared.Reason.the-variants.{File, Short, Day, Value}
 use Rattle.refusal.specs.Table.{numberOf}
 use Rattle.sides.specs.Found.{foundOn, bit, Told}
 use Rattle.limits.specs.declared.Entry.{Entry}
 use Rattle.limits.specs.declared.Entry.the-variants.{Entered, Turned}
 use Rattle.limits.specs.declared.Ranked.{Ranked}
 use Rattle.limits.specs.declared.Ranked.the-variants as ranked-is
-use Rattle.limits.specs.declared.Spare.{Spare}
-use Rattle.limits.specs.declared.Spare.the-variants as spare-is
-
-abbrev pub SparesOn : Instance → List ℕ → ℕ → ℕ → Type 0
-SparesOn i sel x n = Spares (i .net) (i .limit) (row sel) x n
 
 --------------------------------------------------------------------------------
 -- A file with a selection
@@ -83,25 +68,9 @@ rankedIn K f s sel side = rankedBy s sel side (enteredIn K f s sel)
 abbrev pub ranked : Form → List ℕ → List ℕ → ℕ → Ranked
 ranked f s sel side = rankedIn firstTerms f s sel side
 
-abbrev pub spareBy : List ℕ → List ℕ → ℕ → Entry → Spare
-spareBy s sel x (Turned why) = spare-is.Refused why
-spareBy s sel x (Entered l) =
-    pick (leb (l .rows) x)
-    (spare-is.Refused Value)
-    (pick (eqb (row sel x) 1)
-    (spare-is.Refused Selected)
-    (spare-is.Places (sparePlaces (networkOf s l) (limitOf s l) (row sel) x)))
-
-unfoldable pub spare : Form → List ℕ → List ℕ → ℕ → Spare
-spare f s sel x = spareBy s sel x (entered f s sel)
-
 abbrev pub rankedNumbers : Ranked → FitsAndRankAnswer
 rankedNumbers (ranked-is.Told b n) = record { refusal = 0; fits = bit b; rank = n }
 rankedNumbers (ranked-is.Refused why) = record { refusal = numberOf why; fits = 0; rank = 0 }
-
-abbrev pub spareNumbers : Spare → SparePlacesAnswer
-spareNumbers (spare-is.Places n) = record { refusal = 0; places = n }
-spareNumbers (spare-is.Refused why) = record { refusal = numberOf why; places = 0 }
 
 pub record AnsweredIn (K : ℕ) (f : Form) (s sel : List ℕ) (side : ℕ) (r : Ranked) : Type 0 where
   pub is : r ≡ rankedIn K f s sel side
@@ -116,11 +85,3 @@ Answered f s sel side r = AnsweredIn firstTerms f s sel side r
 
 abbrev pub AnsweredKinds : ℕ → List ℕ → List ℕ → ℕ → Ranked → Type 0
 AnsweredKinds d s sel side r = AnsweredIn secondTerms (newWeek d) s sel side r
-
-pub record Spared (f : Form) (s sel : List ℕ) (x : ℕ) (r : Spare) : Type 0 where
-  pub is : r ≡ spare f s sel x
-  pub numbers : spareNumbers r ≡ spareNumbers (spare f s sel x)
-  pub most : spareNumbers r .places ≤ maxLimit
-  pub means :
-      (l : Layout) → reading f s ≡ reading-is.Accepted l → spareNumbers r .refusal ≡ 0 →
-      (row sel x ≡ 0) × SparesOn (instanceOf s l) sel x (spareNumbers r .places)

@@ -1,6 +1,6 @@
 -- What the calls answer in the numbers that C takes.
 --   InNumbers n P r        r is an answer in the numbers that n gives for it, and P says what that answer is and means
--- The numbers for each answer are defined where the answer is: `rankedNumbers` and `spareNumbers` in `limits`, `settledNumbers` in
+-- The numbers for each answer are defined where the answer is: `rankedNumbers` in `limits`, `spareNumbers` in `spare`, `settledNumbers` in
 -- `closing`, `settledKindsNumbers` in `kinds`, `writtenNumbers` in `refusal`.
 use mathlib.Core.Path.{_≡_}
 

@@ -3,7 +3,8 @@
 ghost use mathlib.Core.Path.{_≡_};
 ghost use Prim.Native.Nat.{_≤_};
 ghost use Rattle.theory.specs.Bounds.{maxRows, maxLimit};
-ghost use Rattle.limits.specs.Answers.{rankedNumbers, spareNumbers};
+ghost use Rattle.limits.specs.Answers.{rankedNumbers};
+ghost use Rattle.spare.specs.Spare.{spareNumbers};
 ghost use Rattle.closing.specs.Settle.{settledNumbers};
 ghost use Rattle.kinds.specs.Settle.{settledKindsNumbers};
 ghost use Rattle.refusal.specs.Writing.{writtenNumbers};
@@ -15,9 +16,9 @@ use answers::WriteAnswer;
 use closing::Settled;
 use kinds::SettledKinds;
 use limits::Ranked;
-use limits::Spare;
 use refusal::Written;
 use refusal::number;
+use spare::Spare;
 
 // The numbers for an answer of fits and rank.
 pub fn ranked_numbers(answer: Ranked) -> FitsAndRankAnswer

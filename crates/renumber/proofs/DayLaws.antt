@@ -17,11 +17,11 @@ use native.Mathlib.Decide.{decLt}
 use native.Mathlib.Omega.{arith}
 use Rattle.claimfile.specs.declared.Form.{Form}
 use Rattle.claimfile.specs.declared.Layout.{Layout}
-use Rattle.claimfile.specs.declared.Reading.the-variants.{Accepted}
-use Rattle.claimfile.specs.File.{reading}
+use Rattle.reader.specs.declared.Reading.the-variants.{Accepted}
+use Rattle.reader.specs.Reading.{reading}
 use Rattle.claimfile.specs.Day.{countOf, groupOf, onDay, firstOf, limitOf}
 use Rattle.claimfile.specs.Sound.{SmallerOrTop, Sound, NoneAbove}
-use Rattle.claimfile.proofs.AcceptedLaws.{new-below}
+use Rattle.reader.proofs.AcceptedLaws.{new-below}
 use Rattle.claimfile.proofs.DayLaws.{side-room, written-on, limit-top, limit-below, limit-written}
 use Rattle.sides.specs.Side.{limitIn}
 use Rattle.sides.proofs.ParentLaws.{side-rooted, parent-lower, parent-root}

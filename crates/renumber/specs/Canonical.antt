@@ -26,9 +26,10 @@ use lib.ListN.{getD}
 use Rattle.theory.specs.Sum.{pick}
 use Rattle.claimfile.specs.declared.Form.{Form}
 use Rattle.claimfile.specs.declared.Layout.{Layout}
-use Rattle.claimfile.specs.declared.Reading.{Reading}
-use Rattle.claimfile.specs.declared.Reading.the-variants.{Accepted, Refused}
-use Rattle.claimfile.specs.File.{top, days, reading}
+use Rattle.reader.specs.declared.Reading.{Reading}
+use Rattle.reader.specs.declared.Reading.the-variants.{Accepted, Refused}
+use Rattle.claimfile.specs.File.{top, days}
+use Rattle.reader.specs.Reading.{reading}
 use Rattle.claimfile.specs.Day.{countOf, onDay, namedCard, namedShop, kindOf, firstOf, limitOf}
 use Rattle.claimwriter.specs.Written.{WeekGroup, weekGroup, Contents, fileBytes, layoutFor}
 use Rattle.sides.specs.Side.{parentIn}

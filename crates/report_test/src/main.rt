@@ -1,8 +1,8 @@
 // Writes day A's text, a longer day's with the largest total, the texts of refused files with numbers around the powers of 10, and
 // then what comes of a buffer of just the length of day A's text, of one cell more and of one cell less.
 use claimfile::Form;
-use claimfile::Reading;
-use claimfile::read;
+use reader::Reading;
+use reader::read;
 use report::write_closed;
 use report::write_refused;
 use text::put_word;

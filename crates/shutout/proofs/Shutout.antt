@@ -21,13 +21,14 @@ use Rattle.theory.specs.Matroid.{row}
 use Rattle.theory.specs.Network.{Instance}
 use Rattle.theory.proofs.SumLaws.{sum-cong, sum-zero}
 use Rattle.claimfile.specs.declared.Layout.{Layout}
-use Rattle.claimfile.specs.declared.Reading.{Reading}
-use Rattle.claimfile.specs.declared.Reading.the-variants.{Accepted, Refused}
-use Rattle.claimfile.specs.declared.Refusal.the-variants.{CutOff}
-use Rattle.claimfile.specs.File.{newOld, noneAbove, groupFault, claimFault, recordsFrom, countFault, sectionAt, claimsAt}
-use Rattle.claimfile.specs.File.{readingIn, reading}
+use Rattle.reader.specs.declared.Reading.{Reading}
+use Rattle.reader.specs.declared.Reading.the-variants.{Accepted, Refused}
+use Rattle.reader.specs.declared.Refusal.the-variants.{CutOff}
+use Rattle.claimfile.specs.File.{newOld}
+use Rattle.reader.specs.Reading.{noneAbove, groupFault, claimFault, recordsFrom, countFault, sectionAt, claimsAt}
+use Rattle.reader.specs.Reading.{readingIn, reading}
 use Rattle.claimfile.specs.Day.{instanceOf}
-use Rattle.claimfile.proofs.AcceptedLaws.{accepted-sound, accepted-kinds}
+use Rattle.reader.proofs.AcceptedLaws.{accepted-sound, accepted-kinds}
 use Rattle.closing.specs.declared.Totals.{Totals}
 use Rattle.closing.specs.Settle.{needed, markOf, claimMarkOf, Closes}
 use Rattle.closing.proofs.SettleLaws.{day-formed}

@@ -27,15 +27,15 @@ use Rattle.theory.proofs.EmbedLaws.{Stands, Part, Hanging, part-chain, part-oth
 use Rattle.claimfile.specs.Day.{countOf, groupOf, claimOf, namedCard, kindOf, cardBy, cardUnder, groupsOf, firstOf}
 use Rattle.claimfile.specs.Day.{parentOf, writtenOf, limitOf, networkOf}
 use Rattle.claimfile.specs.Sound.{Sound}
-use Rattle.claimfile.specs.File.{reading}
+use Rattle.reader.specs.Reading.{reading}
 use Rattle.claimfile.specs.declared.Form.{Form}
 use Rattle.claimfile.specs.declared.Layout.{Layout}
 use Rattle.claimfile.specs.declared.Claim.{Claim}
-use Rattle.claimfile.specs.declared.Reading.the-variants.{Accepted}
-use Rattle.claimfile.proofs.AcceptedLaws.{accepted-sound}
+use Rattle.reader.specs.declared.Reading.the-variants.{Accepted}
+use Rattle.reader.proofs.AcceptedLaws.{accepted-sound}
 use Rattle.claimfile.proofs.DayLaws.{side-room, root-past, parent-on, written-on, card-ordinary, card-earned, card-node, shop-node}
 use Rattle.claimfile.proofs.DayLaws.{sound-formed}
-use Rattle.claimfile.proofs.StoredLaws.{stored-fits, fits-stored, stored-rank}
+use Rattle.reader.proofs.StoredLaws.{stored-fits, fits-stored, stored-rank}
 use Rattle.sides.specs.Side.{parentIn, limitIn, hangs, countsIn, FitsBy, FitsIn}
 use Rattle.sides.proofs.ParentLaws.{parent-above, side-rooted, side-down}
 

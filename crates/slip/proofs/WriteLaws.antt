@@ -13,12 +13,13 @@ use lib.Seq.{sets-eq}
 use Rattle.text.specs.Buffer.{Appended}
 use Rattle.claimfile.specs.declared.Form.{Form}
 use Rattle.claimfile.specs.declared.Layout.{Layout}
-use Rattle.claimfile.specs.declared.Refusal.{Refusal}
-use Rattle.claimfile.specs.declared.Reading.{Reading}
-use Rattle.claimfile.specs.declared.Reading.the-variants as reading-is
-use Rattle.claimfile.specs.File.{days, asStored, reading}
+use Rattle.reader.specs.declared.Refusal.{Refusal}
+use Rattle.reader.specs.declared.Reading.{Reading}
+use Rattle.reader.specs.declared.Reading.the-variants as reading-is
+use Rattle.claimfile.specs.File.{days, asStored}
+use Rattle.reader.specs.Reading.{reading}
 use Rattle.claimfile.specs.Sound.{Sound}
-use Rattle.claimfile.proofs.StoredLaws.{new-stored}
+use Rattle.reader.proofs.StoredLaws.{new-stored}
 use Rattle.refusal.specs.declared.Reason.{Reason}
 use Rattle.refusal.specs.declared.Reason.the-variants.{File, Short, Day, Value}
 use Rattle.refusal.specs.declared.Written.{Written}

@@ -16,9 +16,10 @@ use lib.Dec.{ltb, leb}
 use Rattle.theory.specs.Sum.{pick}
 use Rattle.claimfile.specs.declared.Form.{Form}
 use Rattle.claimfile.specs.declared.Layout.{Layout}
-use Rattle.claimfile.specs.declared.Reading.{Reading}
-use Rattle.claimfile.specs.declared.Reading.the-variants as reading-is
-use Rattle.claimfile.specs.File.{days, reading}
+use Rattle.reader.specs.declared.Reading.{Reading}
+use Rattle.reader.specs.declared.Reading.the-variants as reading-is
+use Rattle.claimfile.specs.File.{days}
+use Rattle.reader.specs.Reading.{reading}
 use Rattle.selection.specs.Selection.{bits, keptRows}
 use Rattle.refusal.specs.declared.Written.{Written}
 use Rattle.refusal.specs.declared.Reason.the-variants.{File, Short, Day, Value}

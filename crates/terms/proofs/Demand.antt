@@ -30,11 +30,12 @@ use Rattle.theory.proofs.PriorityLaws.{lex-same, lex-at}
 use Rattle.theory.proofs.LevelLaws.{certified-heaviest}
 use Rattle.theory.proofs.ChoiceLaws as choice
 use Rattle.claimfile.specs.declared.Layout.{Layout}
-use Rattle.claimfile.specs.declared.Reading.{Reading}
-use Rattle.claimfile.specs.declared.Reading.the-variants as reading-is
-use Rattle.claimfile.specs.File.{secondTerms, days, readingKinds}
+use Rattle.reader.specs.declared.Reading.{Reading}
+use Rattle.reader.specs.declared.Reading.the-variants as reading-is
+use Rattle.claimfile.specs.File.{secondTerms, days}
+use Rattle.reader.specs.Reading.{readingKinds}
 use Rattle.claimfile.specs.Day.{networkOf, instanceOf}
-use Rattle.claimfile.proofs.TermsLaws.{second-kinds}
+use Rattle.reader.proofs.TermsLaws.{second-kinds}
 use Rattle.refusal.specs.declared.Reason.{Reason}
 use Rattle.refusal.specs.declared.Reason.the-variants.{File}
 use Rattle.answers.specs.declared.SettleKindsAnswer.{SettleKindsAnswer}

@@ -29,14 +29,15 @@ use Rattle.theory.proofs.BestLaws.{kept-agree, two-kinds}
 use Rattle.theory.proofs.KindsLaws.{best-wider, choice-wider}
 use Rattle.theory.proofs.TestLaws.{either}
 use Rattle.claimfile.specs.declared.Layout.{Layout}
-use Rattle.claimfile.specs.declared.Reading.{Reading}
-use Rattle.claimfile.specs.declared.Reading.the-variants.{Accepted, Refused}
-use Rattle.claimfile.specs.File.{firstTerms, secondTerms, newWeek, days, reading, readingKinds}
+use Rattle.reader.specs.declared.Reading.{Reading}
+use Rattle.reader.specs.declared.Reading.the-variants.{Accepted, Refused}
+use Rattle.claimfile.specs.File.{firstTerms, secondTerms, newWeek, days}
+use Rattle.reader.specs.Reading.{reading, readingKinds}
 use Rattle.claimfile.specs.Day.{kindOf, limitOf, networkOf, instanceOf}
 use Rattle.claimfile.specs.Sound.{Kinds}
-use Rattle.claimfile.specs.Terms.{OfKinds}
-use Rattle.claimfile.proofs.AcceptedLaws.{one-layout, accepted-kinds}
-use Rattle.claimfile.proofs.TermsLaws.{either-reading, first-second}
+use Rattle.reader.specs.Terms.{OfKinds}
+use Rattle.reader.proofs.AcceptedLaws.{one-layout, accepted-kinds}
+use Rattle.reader.proofs.TermsLaws.{either-reading, first-second}
 use Rattle.closing.specs.declared.Totals.{Totals}
 use Rattle.closing.specs.declared.Settled.{Settled}
 use Rattle.closing.specs.Settle.{settledNumbers, toldOn, toldFor, lacks, bestRowIn, bestRow, Closes, Settles}

@@ -16,11 +16,12 @@ use Rattle.theory.specs.Network.{Instance, onBoth}
 use Rattle.theory.specs.Matroid.{row}
 use Rattle.theory.specs.Priority.{kept, weightOf}
 use Rattle.theory.specs.Search.{bestChoice}
-use Rattle.claimfile.specs.File.{secondTerms, readingKinds}
+use Rattle.claimfile.specs.File.{secondTerms}
+use Rattle.reader.specs.Reading.{readingKinds}
 use Rattle.claimfile.specs.Day.{instanceOf}
-use Rattle.claimfile.specs.declared.Refusal.{Refusal}
-use Rattle.claimfile.specs.declared.Reading.{Reading}
-use Rattle.claimfile.specs.declared.Reading.the-variants.{Accepted, Refused}
+use Rattle.reader.specs.declared.Refusal.{Refusal}
+use Rattle.reader.specs.declared.Reading.{Reading}
+use Rattle.reader.specs.declared.Reading.the-variants.{Accepted, Refused}
 
 pub record KindClosing : Type 0 where
   -- 1 for each kept row, 0 for each other

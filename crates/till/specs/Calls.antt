@@ -14,7 +14,8 @@ use Rattle.answers.specs.declared.SettleAnswer.{SettleAnswer}
 use Rattle.answers.specs.declared.WriteAnswer.{WriteAnswer}
 use Rattle.claimfile.specs.declared.Form.{Form}
 use Rattle.refusal.specs.Writing.{Outcome, writtenNumbers, Leaves}
-use Rattle.limits.specs.Answers.{rankedNumbers, Answered, spareNumbers, Spared}
+use Rattle.limits.specs.Answers.{rankedNumbers, Answered}
+use Rattle.spare.specs.Spare.{spareNumbers, Spared}
 use Rattle.closing.specs.Settle.{settledNumbers, Settles}
 use Rattle.codes.specs.Write.{Writes}
 use Rattle.accept.specs.Accept.{verdictNumber, Judges}

@@ -3,8 +3,8 @@ ghost use Rattle.claimfile.specs.File.{formOf, newWeek, storedWeek, newOld, sto
 ghost use Rattle.till.specs.Calls.{SparePlacesIs};
 use answers::SparePlacesAnswer;
 use claimfile::Form;
-use limits::spare_places;
 use numbers::spare_numbers;
+use spare::spare_places;
 
 // For any sort of file.
 fn spare_places_as(

@@ -1,7 +1,7 @@
 -- The file's first fault is told, and what was sent with an accepted file is judged by `accept_on`.
 use mathlib.Core.Path.{refl, sym, _∙_}
 use borrow.Author.Needs.{needs}
-use Rattle.claimfile.proofs.AcceptedLaws.{accepted-sound, accepted-kinds}
+use Rattle.reader.proofs.AcceptedLaws.{accepted-sound, accepted-kinds}
 use Rattle.accept.proofs.VerdictLaws.{judges}
 use Rattle.accept.proofs.accept.Statement.{statement}
 use Rattle.accept.proofs.accept.Tie as tie

@@ -5,9 +5,9 @@ use native.Mathlib.Omega.{arith}
 use borrow.Author.Needs.{needs}
 use borrow.Author.Tests.{not-true, not-false}
 use Rattle.claimfile.specs.Day.{instanceOf}
-use Rattle.accept.specs.Accept.{covered}
+use Rattle.sheets.specs.Sheet.{covered}
 use Rattle.instance.specs.Meaning.{nodes}
-use Rattle.accept.proofs.TableLaws.{zeros}
+use Rattle.sheets.proofs.TableLaws.{zeros}
 use Rattle.accept.proofs.VerdictLaws.{judgeable-sheeted, judgeable-countable, judged-uncovered, judged-unequal, judged-accepted}
 use Rattle.accept.proofs.judge_sheet.Statement.{statement}
 use Rattle.accept.proofs.judge_sheet.Tie as tie

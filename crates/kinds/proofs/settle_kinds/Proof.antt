@@ -1,7 +1,7 @@
 -- The file's first fault is told with nothing changed, and an accepted file is settled by `settle_kinds_on`.
 use mathlib.Core.Path.{refl, sym, _∙_}
 use borrow.Author.Needs.{needs}
-use Rattle.claimfile.proofs.TermsLaws.{second-sound, second-kinds}
+use Rattle.reader.proofs.TermsLaws.{second-sound, second-kinds}
 use Rattle.kinds.proofs.AnswerLaws.{kinds-refused, kinds-accepted}
 use Rattle.kinds.proofs.settle_kinds.Statement.{statement}
 use Rattle.kinds.proofs.settle_kinds.Tie as tie

@@ -3,7 +3,7 @@ use mathlib.Core.Path.{sym, ap, _∙_}
 use Prim.Native.Nat.{ℕ}
 use native.Mathlib.Omega.{arith}
 use borrow.Author.Needs.{needs}
-use Rattle.limits.specs.Answers.{spareNumbers}
+use Rattle.spare.specs.Spare.{spareNumbers}
 use Rattle.numbers.proofs.spare_numbers.Statement.{statement}
 use Rattle.numbers.proofs.spare_numbers.Tie as tie
 

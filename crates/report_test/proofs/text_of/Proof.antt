@@ -2,7 +2,7 @@
 use mathlib.Core.Path.{sym, _∙_}
 use native.Mathlib.Omega.{arith}
 use borrow.Author.Needs.{needs}
-use Rattle.claimfile.proofs.AcceptedLaws.{accepted-sound}
+use Rattle.reader.proofs.AcceptedLaws.{accepted-sound}
 use Rattle.report_test.proofs.text_of.Statement.{statement}
 use Rattle.report_test.proofs.text_of.Tie as tie
 

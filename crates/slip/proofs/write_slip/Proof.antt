@@ -1,7 +1,7 @@
 -- `write_slip` meets its contract: the file's first fault is told with nothing changed, and for an accepted file `slip_on` writes.
 use mathlib.Core.Path.{sym, _∙_}
 use borrow.Author.Needs.{needs}
-use Rattle.claimfile.proofs.AcceptedLaws.{accepted-sound}
+use Rattle.reader.proofs.AcceptedLaws.{accepted-sound}
 use Rattle.slip.proofs.WriteLaws.{slips-refused, slips-accepted}
 use Rattle.slip.proofs.write_slip.Statement.{statement}
 use Rattle.slip.proofs.write_slip.Tie as tie

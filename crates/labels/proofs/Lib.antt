@@ -1,0 +1,2 @@
+-- The laws of what is read off the labels.
+pub mod ReadLaws
