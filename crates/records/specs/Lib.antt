@@ -1,0 +1,2 @@
+-- The record of a group in the canonical file.
+pub mod Records
