@@ -7,13 +7,13 @@ ghost use lib.ListN.{length};
 ghost use Rattle.scratch.specs.Memory.{memory};
 ghost use Rattle.residual.specs.Items.{Raw};
 ghost use Rattle.labels.specs.Label.{Reads, Coding};
+use entries::SPAN;
+use entries::card;
+use entries::label;
+use entries::set_kept;
+use entries::shop;
+use entries::weight;
 use scratch::Shape;
-use scratch::map::SPAN;
-use scratch::map::card;
-use scratch::map::label;
-use scratch::map::set_kept;
-use scratch::map::shop;
-use scratch::map::weight;
 
 // The labels of the nodes that are reached from the source, and of those that reach the sink.
 pub const FROM_SOURCE: usize = SPAN;

@@ -10,18 +10,18 @@ ghost use Rattle.scratch.specs.Map.{Room};
 ghost use Rattle.scratch.specs.View.{netOf};
 ghost use Rattle.prices.specs.State.{State};
 ghost use Rattle.moves.specs.Fill.{Rooted, Low, Above, OnlyMarks, Shifts, Climbed, Tried, Tight, Added};
+use entries::card;
+use entries::kept;
+use entries::parent;
+use entries::queue;
+use entries::row_price;
+use entries::set_kept;
+use entries::set_queue;
+use entries::set_spare;
+use entries::shop;
+use entries::spare;
+use entries::weight;
 use scratch::Shape;
-use scratch::map::card;
-use scratch::map::kept;
-use scratch::map::parent;
-use scratch::map::queue;
-use scratch::map::row_price;
-use scratch::map::set_kept;
-use scratch::map::set_queue;
-use scratch::map::set_spare;
-use scratch::map::shop;
-use scratch::map::spare;
-use scratch::map::weight;
 
 // Whether node v is shut.
 fn is_shut(sh: Shape, v: usize, wide: bool, scratch: &[u32], scratch64: &[u64]) -> bool

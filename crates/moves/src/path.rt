@@ -1,9 +1,9 @@
 // A search for a path, and the path that it found turned round.
 ghost use Rattle.moves.specs.Path.{Found, TurnedBack, Seeking, Tried};
 ghost use Rattle.scratch.specs.Memory.{memory};
+use entries::pred;
 use paths::flip::flip;
 use scratch::Shape;
-use scratch::map::pred;
 use search::relabel;
 use search::search;
 

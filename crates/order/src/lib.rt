@@ -11,18 +11,18 @@ ghost use Rattle.scratch.specs.Memory.{memory};
 ghost use Rattle.residual.specs.Items.{Raw, Links};
 ghost use Rattle.prices.specs.State.{withClass};
 ghost use Rattle.order.specs.Order.{Paid, Placing, Placed, Arranged, Parted, Staying, Swapping};
+use entries::SPAN;
+use entries::card;
+use entries::kept;
+use entries::label;
+use entries::row_price;
+use entries::set_kept;
+use entries::shop;
+use entries::weight;
 use moves::path::try_path;
 use paths::seal::sealed;
 use residual::lists::drop_row;
 use scratch::Shape;
-use scratch::map::SPAN;
-use scratch::map::card;
-use scratch::map::kept;
-use scratch::map::label;
-use scratch::map::row_price;
-use scratch::map::set_kept;
-use scratch::map::shop;
-use scratch::map::weight;
 use search::relabel;
 
 // The shape for a search that turns the rows from `free` on and reaches the nodes with the label `fresh`.

@@ -6,15 +6,15 @@ ghost use lib.ListN.{length};
 ghost use Rattle.scratch.specs.Memory.{memory};
 ghost use Rattle.scratch.specs.Map.{maxSpare, spareOf, keptOf, Room};
 ghost use Rattle.paths.specs.Flip.{Shifted, RowTurned, Turning, Turned, Path, Walked};
+use entries::card;
+use entries::kept;
+use entries::parent;
+use entries::pred;
+use entries::set_kept;
+use entries::set_spare;
+use entries::shop;
+use entries::spare;
 use scratch::Shape;
-use scratch::map::card;
-use scratch::map::kept;
-use scratch::map::parent;
-use scratch::map::pred;
-use scratch::map::set_kept;
-use scratch::map::set_spare;
-use scratch::map::shop;
-use scratch::map::spare;
 
 // A place of group v is taken or given back.
 fn shift(sh: Shape, v: usize, takes: bool, wide: bool, scratch: &mut [u32], scratch64: &mut [u64])

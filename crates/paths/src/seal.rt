@@ -3,13 +3,13 @@ ghost use mathlib.Core.Path.{_≡_};
 ghost use mathlib.Core.Bool.{true};
 ghost use Rattle.scratch.specs.Memory.{memory};
 ghost use Rattle.paths.specs.Seal.{Sought, Passing, Sealed};
+use entries::first;
+use entries::kept;
+use entries::parent;
+use entries::price;
+use entries::spare;
 use residual::lists::after;
 use scratch::Shape;
-use scratch::map::first;
-use scratch::map::kept;
-use scratch::map::parent;
-use scratch::map::price;
-use scratch::map::spare;
 
 // The first item at node a that is no row, or a row that is kept.
 fn first_kept(

@@ -8,12 +8,12 @@ ghost use Rattle.scratch.specs.Memory.{memory};
 ghost use Rattle.scratch.specs.Map.{weightOf, priceOf};
 ghost use Rattle.scratch.specs.View.{netOf};
 ghost use Rattle.prices.specs.Marks.{PutMark, Priced, Marking, Marked};
+use entries::parent;
+use entries::price;
+use entries::row_price;
+use entries::weight;
 use scratch::Shape;
 use scratch::cells::put;
-use scratch::map::parent;
-use scratch::map::price;
-use scratch::map::row_price;
-use scratch::map::weight;
 
 // How far x lies above y: 0 where it does not.
 fn above(x: usize, y: usize) -> usize

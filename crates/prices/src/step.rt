@@ -9,15 +9,15 @@ ghost use Rattle.scratch.specs.Map.{Room, predOf, priceOf};
 ghost use Rattle.residual.specs.State.{highest, Ready};
 ghost use Rattle.scratch.specs.View.{netOf};
 ghost use Rattle.prices.specs.Step.{BoundOf, GroupsOf, AlongOf, Moving, Raised, Cutting, Stepped};
+use entries::card;
+use entries::kept;
+use entries::parent;
+use entries::pred;
+use entries::price;
+use entries::set_price;
+use entries::shop;
 use residual::arcs::arc;
 use scratch::Shape;
-use scratch::map::card;
-use scratch::map::kept;
-use scratch::map::parent;
-use scratch::map::pred;
-use scratch::map::price;
-use scratch::map::set_price;
-use scratch::map::shop;
 use scratch::pick::pick;
 
 // The lesser of best and the slack of arc e, where e leaves the reached nodes. Most arcs do not, so the labels of its two ends are

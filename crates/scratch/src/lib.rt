@@ -1,7 +1,6 @@
 // The lent scratch: which table lies where, how it is read and written, and cleared.
 pub mod cells;
 pub mod clear;
-pub mod map;
 pub mod pick;
 
 // The sizes of the tables, the first row that may be turned, the toll, and the label of the nodes that a search

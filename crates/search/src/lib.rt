@@ -12,14 +12,14 @@ ghost use Rattle.theory.specs.Bounds.{cellBound};
 ghost use Rattle.scratch.specs.Memory.{memory};
 ghost use Rattle.scratch.specs.Map.{labelOf, queueOf, Room};
 ghost use Rattle.search.specs.Search.{Newest, Next, Seeded, Asked, Searched, SearchedBy, Queued, Relabelled, Refreshed};
+use entries::label;
+use entries::queue;
+use entries::set_label;
+use entries::set_queue;
 use look::reach;
 use scan::scan_in;
 use scan::scan_out;
 use scratch::Shape;
-use scratch::map::label;
-use scratch::map::queue;
-use scratch::map::set_label;
-use scratch::map::set_queue;
 
 // Brings the last of n nodes of the queue to place h, for the one that stood there. The answer is that node.
 fn newest(

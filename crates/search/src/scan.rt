@@ -8,11 +8,11 @@ ghost use Rattle.scratch.specs.Memory.{memory};
 ghost use Rattle.scratch.specs.View.{residualOf};
 ghost use Rattle.residual.specs.Items.{ItemArc};
 ghost use Rattle.search.specs.Search.{Open, Scanned, Rising, Every};
+use entries::first;
 use look::look_item;
 use look::look_up;
 use residual::lists::after;
 use scratch::Shape;
-use scratch::map::first;
 
 // Looks along the items of node u, which stands in place h of the queue.
 fn items_out(

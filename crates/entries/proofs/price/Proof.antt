@@ -1,11 +1,11 @@
 -- A group's price is its cell of the sheet (`price-at`); the source and the sink have the price 0 (`price-out`).
 use mathlib.Core.Path.{sym, _∙_}
 use native.Mathlib.Omega.{arith}
 use Rattle.scratch.specs.Memory.{memory}
 use Rattle.scratch.proofs.MapLaws.{price-at, price-out}
 use borrow.Author.Needs.{needs}
-use Rattle.scratch.proofs.map.price.Statement.{statement}
-use Rattle.scratch.proofs.map.price.Tie as tie
+use Rattle.entries.proofs.price.Statement.{statement}
+use Rattle.entries.proofs.price.Tie as tie
 
 get-requires : tie.Need-get-requires
 get-requires c κs = omega (arith, c .if1 .taken, c .before .before .before .pre)

@@ -1,15 +1,15 @@
 -- Each price is below 2 ^ 32, so the two add up.
 use mathlib.Core.List.{List}
 use Rattle.scratch.specs.Memory.{memory}
 use Rattle.scratch.proofs.MemoryLaws.{memory-low}
 use mathlib.Core.Path.{ap, ap₂, _∙_}
 use Prim.Native.Nat.{ℕ, _+_, _<_}
 use native.Mathlib.Omega.{arith}
 use Rattle.theory.specs.Bounds.{cellBound}
 use Rattle.scratch.specs.Map.{priceOf}
 use Rattle.scratch.proofs.MapLaws.{price-low}
-use Rattle.scratch.proofs.map.row_price.Statement.{statement}
-use Rattle.scratch.proofs.map.row_price.Tie as tie
+use Rattle.entries.proofs.row_price.Statement.{statement}
+use Rattle.entries.proofs.row_price.Tie as tie
 
 -- the memory at entry
 abbrev sheet₀ : tie.Start → List ℕ

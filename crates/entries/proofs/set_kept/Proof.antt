@@ -1,8 +1,8 @@
 -- One store into the choice: row c's byte becomes x, and every other stays (`put-kept`).
 use Rattle.scratch.proofs.MapLaws.{put-kept}
 use borrow.Author.Needs.{needs}
-use Rattle.scratch.proofs.map.set_kept.Statement.{statement}
-use Rattle.scratch.proofs.map.set_kept.Tie as tie
+use Rattle.entries.proofs.set_kept.Statement.{statement}
+use Rattle.entries.proofs.set_kept.Tie as tie
 
 slice-write-choice : tie.Need-slice-write-choice
 slice-write-choice c = search needs

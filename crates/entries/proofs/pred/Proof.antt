@@ -2,13 +2,13 @@
 -- for the fresh label itself and for a label below it (`arc-in-near`). A label that lies higher is of another class (`arc-in-far`).
 use Prim.Native.Nat.{ℕ}
 use mathlib.Core.List.{List}
 use Rattle.scratch.specs.Memory.{memory}
 use native.Mathlib.Omega.{arith}
 use Rattle.scratch.specs.Map.{labelOf}
 use Rattle.scratch.proofs.MapLaws.{arc-in-near, arc-in-far}
 use borrow.Author.Needs.{needs}
-use Rattle.scratch.proofs.map.pred.Statement.{statement}
-use Rattle.scratch.proofs.map.pred.Tie as tie
+use Rattle.entries.proofs.pred.Statement.{statement}
+use Rattle.entries.proofs.pred.Tie as tie
 
 -- the memory at entry
 abbrev scratch₀ : tie.Start → List ℕ

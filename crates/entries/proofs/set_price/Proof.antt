@@ -2,11 +2,11 @@
 use Prim.Native.Nat.{ℕ}
 use mathlib.Core.List.{List}
 use native.Mathlib.Omega.{arith}
 use Rattle.scratch.specs.Memory.{memory}
 use Rattle.scratch.proofs.MapLaws.{put-price}
 use borrow.Author.Needs.{needs}
-use Rattle.scratch.proofs.map.set_price.Statement.{statement}
-use Rattle.scratch.proofs.map.set_price.Tie as tie
+use Rattle.entries.proofs.set_price.Statement.{statement}
+use Rattle.entries.proofs.set_price.Tie as tie
 
 -- the memory at entry
 abbrev sheet₀ : tie.Start → List ℕ
