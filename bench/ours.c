@@ -1,4 +1,5 @@
 /* The library's calls. No other file here names them, except the table of sorts.h. */
+#include <string.h>
 #include "ours.h"
 
 static mark sheet[MOST_MARKS], scratch[CLAIMS_LONGEST_SCRATCH];
@@ -138,6 +139,29 @@ static void make_accept(const struct sort *by, const struct file *day, const uin
     by->accept(day->bytes, day->length, selection, MOST_ROWS, sheet, MOST_MARKS, DAY_NAMED);
 }
 
+/*
+ * The day as the last of the most files; those before it have no group and no row. Of the most shop groups the last one is left out, and
+ * its rows name the one before it, since the oven is a shop group too.
+ */
+static void make_settle_joined(const struct sort *by, const struct file *day, const uint8_t *selection) {
+    enum { BEFORE = CLAIMS_MOST_FILES - 1, SHORTEST = CLAIMS_FILE_LENGTH(0, 0), RECORD = 16, CLAIM = 5 };
+    static uint8_t files[BEFORE * SHORTEST + MOST_FILE], choice[MOST_ROWS];
+    static uint32_t lengths[CLAIMS_MOST_FILES];
+    uint8_t *last = files + BEFORE * SHORTEST;
+    size_t shops_at = 2 + RECORD * get16(day->bytes), shops = get16(day->bytes + shops_at), dropped = shops == MOST_GROUPS;
+    size_t claims_at = shops_at + 2 + RECORD * (shops - dropped), from = claims_at + RECORD * dropped;
+    (void)by, (void)selection;
+    memcpy(last, day->bytes, claims_at);
+    put16(last + shops_at, (unsigned)(shops - dropped));
+    memcpy(last + claims_at, day->bytes + from, day->length - from);
+    for (uint8_t *claim = last + claims_at + 2; claim < last + day->length - RECORD * dropped; claim += CLAIM)
+        if (get16(claim + 2) == MOST_GROUPS - 1) put16(claim + 2, MOST_GROUPS - 2);
+    for (unsigned k = 0; k < BEFORE; k++) lengths[k] = SHORTEST;
+    lengths[BEFORE] = (uint32_t)(day->length - RECORD * dropped);
+    claims_settle_joined(files, BEFORE * SHORTEST + lengths[BEFORE], lengths, CLAIMS_MOST_FILES, MOST_ROWS / 2, DAY_NAMED, choice, MOST_ROWS,
+                         sheet, MOST_MARKS, scratch, CLAIMS_LONGEST_SCRATCH);
+}
+
 static void make_version(const struct sort *by, const struct file *day, const uint8_t *selection) {
     (void)by, (void)day, (void)selection;
     claims_version();
@@ -158,6 +182,7 @@ const struct call calls[] = {
     EACH_SORT("claims_write_canonical", make_canonical),
     EACH_SORT("claims_write_codes", make_codes),
     EACH_SORT("claims_accept", make_accept),
+    {"claims_settle_joined", make_settle_joined, NULL},
     {"claims_version", make_version, NULL},
 };
 

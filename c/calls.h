@@ -1,6 +1,7 @@
 /*
  * All calls on a file, for tests: they are made one after another with the same selection and the same lengths, and what they answer and
- * leave stands in one struct. A file that is refused is refused by all of them, and nothing is changed.
+ * leave stands in one struct. A file that is refused is refused by all of them, and nothing is changed; by the call for several counters too,
+ * where the file is of the sort that it takes.
  */
 #ifndef CALLS_H
 #define CALLS_H
@@ -85,6 +86,27 @@ static inline int form_gave(const struct told *t, unsigned number) {
     return t->canonical.refusal == number && t->canonical.length == 0;
 }
 
+/*
+ * Whether the call for several counters gives the number alone, with the file's place, and changes nothing, where the file is the last of
+ * so many. Those before it have no group and no row.
+ */
+static inline int joined_gave(const struct file *f, unsigned count, unsigned weekday, const struct lengths *n, unsigned number) {
+    enum { SHORTEST = CLAIMS_FILE_LENGTH(0, 0) };
+    static uint8_t files[(CLAIMS_MOST_FILES - 1) * SHORTEST + sizeof f->bytes];
+    static struct lent l, before;
+    uint32_t lengths[CLAIMS_MOST_FILES];
+    unsigned last = count - 1;
+    for (unsigned k = 0; k < last; k++) lengths[k] = SHORTEST;
+    lengths[last] = (uint32_t)f->length;
+    memset(files, 0, sizeof files);
+    memcpy(files + last * SHORTEST, f->bytes, f->length);
+    memset(&l, FILL, sizeof l);
+    memset(&before, FILL, sizeof before);
+    struct claims_settle_joined_answer r = claims_settle_joined(files, last * SHORTEST + f->length, lengths, count, 9, weekday, l.choice,
+                                                                n->choice, l.sheet, n->sheet, l.scratch, n->scratch);
+    return r.refusal == number && r.file == last && r.earned == 0 && r.kept == 0 && r.total == 0 && memcmp(&l, &before, sizeof l) == 0;
+}
+
 /* A day that the week does not have. */
 static inline unsigned no_weekday(void) { return no_weekdays[below(NO_WEEKDAYS)]; }
 
@@ -93,6 +115,10 @@ static inline void refused_with(const char *what, const struct sort *by, const s
     static struct told t;
     ask(by, f, weekday, n, MOST_ROWS, &t);
     expect(calls_gave(&t, number) && form_gave(&t, number), "%s, %s, day %u: not refused with %u", by->name, what, weekday, number);
+    if (by != &sorts[NEW_WEEK]) return;
+    for (unsigned count = 1; count <= CLAIMS_MOST_FILES; count++)
+        expect(joined_gave(f, count, weekday, n, number), "the last of %u files, %s, day %u: not refused with %u", count, what, weekday,
+               number);
 }
 
 /* The file is judged first: it is refused by its own number with all that a call may need, with nothing, and on a day over 6. */

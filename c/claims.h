@@ -1,6 +1,6 @@
 /*
- * A day of bread claims: the calls for the till's own program. c/example.c is a whole program that uses them, c/example_kinds.c is one for
- * the second terms, and c/accept.c is one for other makers of tills.
+ * A day of bread claims: the calls for the till's own program. c/example.c is a whole program that uses them, c/example_joined.c is one for
+ * several counters, c/example_kinds.c is one for the second terms, and c/accept.c is one for other makers of tills.
  *
  * The claim file has three sections, each after its count: card groups, shop groups and claims. Every count and field is unsigned and 16
  * bits wide, low byte first, except the kind, which is one byte. Groups are numbered from 0 within their section, and claims, the file's
@@ -15,7 +15,7 @@
  * A call names the day, 0 to 6, and a group's limit is that day's. The canonical form alone is that of the whole week and names none. A
  * file in the old layout acts as one in the week layout that has each limit seven times: its answers are the same on every day.
  *
- * There are four sorts of file, and each call on a file of the first terms stands here four times, with the same arguments and the same
+ * There are four sorts of file, and each call on one file of the first terms stands here four times, with the same arguments and the same
  * form of answer. What stands at the end of its name says which sort it takes:
  *
  *     nothing        a new file in the week layout
@@ -23,7 +23,8 @@
  *     _old           a new file in the old layout
  *     _old_stored    a stored file in the old layout
  *
- * The two calls under the second terms take a new file in the week layout, and their names end in _kinds.
+ * The call for several counters takes new files in the week layout, and its name ends in _joined. The two calls under the second terms take
+ * a new file in the week layout, and their names end in _kinds.
  *
  * In a new file no group's limit may be above its parent's, on any of the seven days, whichever is named. A stored file is one taken from
  * the shelf, which was written when any limit was allowed. Its limits are lowered, on each day by itself: from the first group to the
@@ -48,9 +49,9 @@
  * the C library they need memset and memcpy at most. They have no variables of their own and use no heap; docs/PERFORMANCE.md says how
  * much code they have and how much stack they take.
  *
- * The calls keep no state. Only settle, under both terms, the slip, the canonical form and the codes change memory that is lent to them,
- * for each sort of file, and only where they answer no refusal. Calls may be made from several threads at once, where what they are lent
- * to change is not shared.
+ * The calls keep no state. Only settle, under both terms and for several counters, the slip, the canonical form and the codes change memory
+ * that is lent to them, for each sort of file, and only where they answer no refusal. Calls may be made from several threads at once, where
+ * what they are lent to change is not shared.
  *
  * A pointer must not be null, even where the length beside it is 0, and as many elements must stand there as the length says. Buffers
  * that are lent to one call do not overlap.
@@ -70,13 +71,16 @@ extern "C" {
  * claims_version() tells the version of the library that a program is linked with. It is in libtill.a alone; both archives of a release
  * have the same version.
  */
-#define CLAIMS_VERSION 11u
+#define CLAIMS_VERSION 12u
 
 /* The most that a file may hold. */
 #define CLAIMS_MOST_GROUPS 256u       /* in one section, card groups or shop groups */
 #define CLAIMS_MOST_CLAIMS 512u       /* rows */
 #define CLAIMS_LONGEST_FILE 10758u    /* bytes in the week layout: all three sections are full */
 #define CLAIMS_LONGEST_FILE_OLD 4614u /* the same in the old layout */
+
+/* The most files that are settled together. */
+#define CLAIMS_MOST_FILES 8u
 
 /* How many days a week has. A day is a number below it. */
 #define CLAIMS_DAYS 7u
@@ -89,7 +93,8 @@ extern "C" {
  * The lengths that a call needs, counted in elements: bytes of a selection, of the choice, of the slip, of the canonical file and of the
  * codes, numbers of the sheet and of the scratch. These numbers have 32 bits, and 64 bits under the second terms. The lengths are the same
  * for all sorts of file and under both terms. `claims` is the file's number of claims, `groups` that of its card groups and shop groups
- * together, and `kept` that of the selection's bytes that are 1.
+ * together, and `kept` that of the selection's bytes that are 1. Where several files are settled together, `claims` is the number of claims
+ * of all files, and `groups` that of the groups of all files and one more, for the oven.
  */
 #define CLAIMS_SELECTION_LENGTH(claims) (claims)
 #define CLAIMS_CHOICE_LENGTH(claims) (claims)
@@ -121,7 +126,8 @@ extern "C" {
 /*
  * Why a call is turned away: the numbers of documents 01 and 02. The file is judged first, from its front, and the first fault met is the
  * one told (1 to 7, and 11). Of one group record 3 is judged first and then 11; the calls for stored files do not judge 11. Then comes the
- * length of the selection or of the lent buffers (8), then the day (12), then the values (9), and 10, or 13, 14 and 15, last.
+ * length of the selection or of the lent buffers (8), then the day (12), then the values (9), and 10, or 13, 14 and 15, last. Where several
+ * files are settled together, 16 comes before all files, then the files are judged, the lowest first, and 17 comes after them and before 8.
  */
 #define CLAIMS_CUT_OFF 1u       /* the file ends before or inside a count or record that is due */
 #define CLAIMS_GROUP_COUNT 2u   /* a group count is over 256 */
@@ -138,6 +144,8 @@ extern "C" {
 #define CLAIMS_UNFIT 13u        /* accept only: the choice does not fit */
 #define CLAIMS_UNCOVERED 14u    /* accept only: a claim is not covered */
 #define CLAIMS_UNEQUAL 15u      /* accept only: the totals differ */
+#define CLAIMS_FILES 16u        /* several counters only: no file, more than eight, or lengths that do not add up to the buffer's */
+#define CLAIMS_LARGE 17u        /* several counters only: the joined file would pass 256 groups on a side or 512 claims */
 
 /* What fits and rank answers. */
 struct claims_fits_and_rank_answer {
@@ -155,6 +163,15 @@ struct claims_spare_places_answer {
 /* What settle answers. */
 struct claims_settle_answer {
     uint32_t refusal; /* 0, or the number of the reason why the call is turned away; the other fields are 0 then */
+    uint64_t earned;  /* how many of the kept rows are earned */
+    uint64_t kept;    /* how many rows are kept */
+    uint64_t total;   /* the sheet's total, which is the weight of the kept rows */
+};
+
+/* What settle answers for several counters together. */
+struct claims_settle_joined_answer {
+    uint32_t refusal; /* 0, or the number of the reason why the call is turned away; earned, kept and total are 0 then */
+    uint32_t file;    /* the place, from 0, of the lowest file at fault, where the number is a file's own: 1 to 7, or 11; else 0 */
     uint64_t earned;  /* how many of the kept rows are earned */
     uint64_t kept;    /* how many rows are kept */
     uint64_t total;   /* the sheet's total, which is the weight of the kept rows */
@@ -271,6 +288,52 @@ claims_settle_call claims_settle;
 claims_settle_call claims_settle_stored;
 claims_settle_call claims_settle_old;
 claims_settle_call claims_settle_old_stored;
+
+/* ---- Several counters, one oven ---- */
+
+/*
+ * Settles the files of up to eight counters together, by the limits of a day, under one oven limit: in all no more rows than that are
+ * kept. Each file is a new one in the week layout under the first terms. They stand end to end in one buffer, beside a list of their
+ * lengths; the files are numbered from 0 in that order.
+ *
+ * What is answered and left is what claims_settle_stored answers and leaves for one joined file, which is written nowhere. Its shop group 0
+ * is the oven, with the oven limit on all seven days. The files' groups follow in file order, each top shop group as a group in the oven,
+ * and so do their rows. A shop limit that is above the oven limit is lowered to it, as in a stored file. With N claims and G groups in all
+ * files, card and shop groups together, the buffers are laid out so:
+ *
+ *     choice   the rows of file 0, then those of file 1, and so on
+ *     sheet    the marks of the card groups of file 0, of file 1 and so on; then of the oven; then of the shop groups of file 0, of file 1
+ *              and so on; then of the rows, in the order of the choice
+ *
+ * An earned row weighs N + 1 here too, with the claims of all files in N. Whoever adds up the sheet takes the oven limit for the oven and
+ * each shop group's lowered limit.
+ *
+ * Where nothing is refused and the oven limit is N or more, each counter keeps exactly what claims_settle keeps of its file alone,
+ * whichever files the others send.
+ *
+ * First it is judged how many files there are, and whether their lengths add up to the buffer's, as a true sum (16); then the files, lowest
+ * first, and the first fault met is told with that file's place (1 to 7, and 11); then whether the joined file would be too large, the oven
+ * counted as a shop group (17); then the lengths of the lent buffers (8), and then the day (12). A file of length 0 is cut off (1). Longer
+ * buffers are accepted; what lies past the needed length is neither read nor changed. What the buffers hold before does not matter. Where a
+ * refusal is answered, no buffer is changed.
+ *
+ * files, files_length       the files, end to end
+ * lengths, lengths_length   how many bytes each file has: 1 to 8 numbers
+ * oven                      the oven limit, 0 to 65535
+ * day                       0 to 6
+ * choice, choice_length     N bytes at least: afterwards 1 for each kept row and 0 for each other row
+ * sheet, sheet_length       G + 1 + N numbers at least: afterwards the marks
+ * scratch, scratch_length   6 * (G + 1) + 3 * N numbers at least: afterwards zero
+ */
+typedef struct claims_settle_joined_answer claims_settle_joined_call(
+    const uint8_t *files, size_t files_length,
+    const uint32_t *lengths, size_t lengths_length,
+    uint16_t oven,
+    uint32_t day,
+    uint8_t *choice, size_t choice_length,
+    uint32_t *sheet, size_t sheet_length,
+    uint32_t *scratch, size_t scratch_length);
+claims_settle_joined_call claims_settle_joined;
 
 /* ---- The second terms ---- */
 

@@ -1,4 +1,5 @@
 /* Tests of claims.h itself: the version, and that the needed lengths are those that its macros give, by the calls for each sort of file. */
+#include <string.h>
 #include "sorts.h"
 
 /* The sort whose turn it is. */
@@ -19,6 +20,21 @@ static unsigned settled_with(const struct day *d, size_t choice_less, size_t she
         choice, CLAIMS_CHOICE_LENGTH(d->rows) - choice_less,
         sheet, CLAIMS_SHEET_LENGTH(groups, d->rows) - sheet_less,
         scratch, CLAIMS_SCRATCH_LENGTH(groups, d->rows) - scratch_less);
+    return r.refusal;
+}
+
+/* The file twice, as those of two counters: the groups of both, and one more for the oven, and the rows of both. */
+static unsigned joined_with(const struct day *d, size_t choice_less, size_t sheet_less, size_t scratch_less) {
+    static uint8_t files[2 * CLAIMS_LONGEST_FILE];
+    const uint32_t both[2] = {(uint32_t)file.length, (uint32_t)file.length};
+    unsigned groups = 2 * (d->groups[CARD] + d->groups[SHOP]) + 1, claims = 2 * d->rows;
+    memcpy(files, file.bytes, file.length);
+    memcpy(files + file.length, file.bytes, file.length);
+    struct claims_settle_joined_answer r = claims_settle_joined(
+        files, 2 * file.length, both, 2, 9, weekday,
+        choice, CLAIMS_CHOICE_LENGTH(claims) - choice_less,
+        sheet, CLAIMS_SHEET_LENGTH(groups, claims) - sheet_less,
+        scratch, CLAIMS_SCRATCH_LENGTH(groups, claims) - scratch_less);
     return r.refusal;
 }
 
@@ -90,6 +106,14 @@ static void lengths(const struct day *d) {
     expect(spare_with(selection - 1) == CLAIMS_SHORT, "spare places with a selection one short");
 }
 
+/* The same of the call for several counters. */
+static void joined_lengths(const struct day *d) {
+    expect(joined_with(d, 0, 0, 0) == 0, "two counters with the needed lengths");
+    expect(joined_with(d, 0, 1, 0) == CLAIMS_SHORT, "two counters with a sheet one short");
+    expect(joined_with(d, 0, 0, 1) == CLAIMS_SHORT, "two counters with a scratch one short");
+    if (d->rows > 0) expect(joined_with(d, 1, 0, 0) == CLAIMS_SHORT, "two counters with a choice one short");
+}
+
 static struct day largest_day(void) {
     struct day d = flat_day(CLAIMS_MOST_GROUPS, 1, CLAIMS_MOST_GROUPS, 1);
     draw_rows(&d, CLAIMS_MOST_CLAIMS, 2);
@@ -105,6 +129,7 @@ static void days(void) {
     for (int n = 0; n < 50; n++) {
         d = day_for(by, random_day(20, 40));
         lengths(&d);
+        if (by == &sorts[NEW_WEEK]) joined_lengths(&d);
     }
 }
 
@@ -112,6 +137,7 @@ int main(void) {
     expect(claims_version() == CLAIMS_VERSION, "the library's version is the header's");
 
     expect(CLAIMS_MOST_GROUPS == MOST_GROUPS && CLAIMS_MOST_CLAIMS == MOST_ROWS, "the most groups and claims");
+    expect(CLAIMS_MOST_FILES == 8, "the most files");
     expect(CLAIMS_DAYS == WEEKDAYS, "the days of a week");
     expect(CLAIMS_LONGEST_FILE == 10758, "the longest file");
     expect(CLAIMS_LONGEST_FILE == CLAIMS_FILE_LENGTH(2 * CLAIMS_MOST_GROUPS, CLAIMS_MOST_CLAIMS), "the longest file by its records");

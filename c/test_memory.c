@@ -1,7 +1,8 @@
 /*
- * Tests of settling and of the codes in memory of just the needed length, for each sort of file: small days of all shapes, two groups and
- * one claim among them, and days of the largest size, with limits on both sides of the number of rows. The memory is dirty before each
- * call and lies between guards, which the call must leave alone; in one cell less of scratch it must tell 8 and change nothing.
+ * Tests of settling and of the codes in memory of just the needed length, for each sort of file, and of settling one counter under an oven:
+ * small days of all shapes, two groups and one claim among them, and days of the largest size, with limits on both sides of the number of
+ * rows. The memory is dirty before each call and lies between guards, which the call must leave alone; in one cell less of scratch it must
+ * tell 8 and change nothing.
  */
 #include <string.h>
 #include "guarded.h"
@@ -33,6 +34,30 @@ static struct claims_write_codes_answer write_codes(size_t less) {
                            scratch.length / sizeof(uint32_t) - less);
 }
 
+/*
+ * The call for several counters on the file alone, in the needed memory, which has a group more for the oven, and in one cell less. With an
+ * oven for every row it keeps what settle kept.
+ */
+static void joined_in_exact_memory(const struct day *d, const uint8_t *kept) {
+    struct day one_more = *d;
+    uint32_t length = (uint32_t)file.length;
+    one_more.groups[SHOP]++;
+    for (size_t less = 0; less < 2; less++) {
+        lend(&one_more);
+        struct claims_settle_joined_answer r = claims_settle_joined(
+            file.bytes, file.length, &length, 1, MOST_ROWS, weekday, bytes_in(&choice), choice.length, cells_in(&sheet),
+            sheet.length / sizeof(uint32_t), cells_in(&scratch), scratch.length / sizeof(uint32_t) - less);
+        if (less) {
+            expect(r.refusal == CLAIMS_SHORT && all_left_alone(0, 0, 0), "one counter, scratch one cell short");
+            continue;
+        }
+        expect(all_left_alone(choice.length, sheet.length, scratch.length), "one counter: a guard is changed");
+        expect(r.refusal == 0 && r.file == 0 && r.earned == count_rows(d, kept, 1) && r.kept == count_rows(d, kept, 0) &&
+                   r.total == worth_of(d, kept) && memcmp(bytes_in(&choice), kept, d->rows) == 0 && all_zero(&scratch, scratch.length),
+               "what is answered and left for one counter");
+    }
+}
+
 /* Both calls on a day, in the needed memory and in one cell less. The code buffer is the choice's. */
 static void in_exact_memory(const struct day *d, uint8_t *kept, uint8_t *codes) {
     struct day low = lowered(d);
@@ -45,6 +70,7 @@ static void in_exact_memory(const struct day *d, uint8_t *kept, uint8_t *codes) 
     expect(r.refusal == 0 && r.earned == count_rows(d, kept, 1) && r.kept == count_rows(d, kept, 0) && r.total == worth_of(d, kept) &&
                fits_day(d, kept) && certified(&low, 2, kept, cells_in(&sheet)) && all_zero(&scratch, scratch.length),
            "what settle answers and leaves");
+    if (by == &sorts[NEW_WEEK] && d->groups[SHOP] < MOST_GROUPS) joined_in_exact_memory(d, kept);
     lend(d);
     struct claims_write_codes_answer w = write_codes(0);
     memcpy(codes, bytes_in(&choice), d->rows);

@@ -1,5 +1,5 @@
 /*
- * What the examples and accept.c share: what each refusal means, the day that a word names, and for the examples how the day and the file
+ * What the examples and accept.c share: what each refusal means, the day that a word names, and for two examples how the day and the file
  * are read. c/example.c says how to read C.
  */
 #ifndef WORDS_H
@@ -26,6 +26,8 @@ static const char *const meaning[] = {
     [CLAIMS_UNFIT] = "the choice does not fit",
     [CLAIMS_UNCOVERED] = "a claim is not covered",
     [CLAIMS_UNEQUAL] = "the totals differ",
+    [CLAIMS_FILES] = "no file, more than eight, or lengths that do not add up to the buffer's",
+    [CLAIMS_LARGE] = "the joined file would pass 256 groups on a side or 512 claims",
 };
 
 /*

@@ -39,6 +39,17 @@ pub struct SettleKindsAnswer {
     pub total: u64,
 }
 
+// The files of several counters settled together: what settling one file tells, with the place of the file at fault, from 0, where a fault of
+// a file is told. Else the place is 0.
+#[repr(C)]
+pub struct SettleJoinedAnswer {
+    pub refusal: u32,
+    pub file: u32,
+    pub earned: u64,
+    pub kept: u64,
+    pub total: u64,
+}
+
 // The slip, the canonical form and the codes: how many bytes were written.
 #[repr(C)]
 pub struct WriteAnswer {

@@ -3,6 +3,7 @@ pub mod PutLaws
 pub mod WrittenLaws
 pub mod BegunLaws
 pub mod ClaimsLaws
+pub mod CountsLaws
 pub mod WeekLaws
 pub mod AlikeLaws
 pub mod WidenedLaws

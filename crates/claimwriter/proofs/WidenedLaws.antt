@@ -23,11 +23,10 @@ use Rattle.claimfile.specs.File.{firstTerms, columnOf, groupWidth, claimWidth, 
 use Rattle.reader.specs.Reading.{orElse, rowsFrom}
 use Rattle.reader.specs.Reading.{countFault, sectionOf, sectionAt, claimsAt, afterCards, afterShops, afterClaims}
 use Rattle.reader.specs.Reading.{readingIn, reading}
-use Rattle.reader.specs.Sections.{behind, placeOn}
 use Rattle.claimfile.specs.Day.{claimOf}
 use Rattle.claimfile.specs.Sound.{Sound}
 use Rattle.claimwriter.specs.Written.{weekGroup, bytesOf, groupBytes, claimBytes, section, fileBytes}
-use Rattle.claimwriter.specs.Put.{Holds}
+use Rattle.claimwriter.specs.Put.{Holds, countPlace}
 use Rattle.claimwriter.specs.Week.{weekForm, asWeek}
 use Rattle.claimwriter.specs.Widened.{widenSection, widened, widenedBy}
 use Rattle.claimfile.specs.declared.Form.{Form}
@@ -38,11 +37,11 @@ use Rattle.reader.specs.declared.Checked.the-variants.{Fine, Fault}
 use Rattle.reader.specs.declared.Reading.{Reading}
 use Rattle.reader.specs.declared.Reading.the-variants.{Accepted, Refused}
 use Rattle.claimfile.specs.declared.Layout.{Layout}
-use Rattle.reader.proofs.AcceptedLaws.{not-both, section-read}
-use Rattle.reader.proofs.AcceptedLaws.{accepted-week, accepted-sections, accepted-sound, accepted-rows}
+use Rattle.reader.proofs.AcceptedLaws.{not-both, accepted-week, accepted-sound, accepted-rows}
 use Rattle.reader.proofs.SectionLaws.{word-part, cut-part}
 use Rattle.claimwriter.proofs.PutLaws.{same-cell, holds-append}
 use Rattle.claimwriter.proofs.WrittenLaws.{section-length, holds-section}
+use Rattle.claimwriter.proofs.CountsLaws.{count-stands}
 use Rattle.claimwriter.proofs.AlikeLaws.{section-whole, section-alike, Follows, groupsChecked, groups-alike, follows-groups}
 
 --------------------------------------------------------------------------------
@@ -236,15 +235,14 @@ module _ (f : Form) (s : List ℕ) (l : Layout) (old : f .week ≡ false) (is : 
   places = omega (arith, sound, wide-old (l .cards), wide-old (l .cards + l .shops))
 
   card-count : word s 0 ≡ l .cards
-  card-count = sym (section-read s 0 (l .cards) (l .«card_at») _ f (accepted-sections f s l is 0 (omega arith)) .counted)
+  card-count =
+      let place : 0 ≡ countPlace l 0 = omega (arith, places) in
+      ap (word s) place ∙ count-stands f s l is 0 (omega arith)
 
   shop-count : word s (l .«card_at» + 4 * l .cards) ≡ l .shops
   shop-count =
-      ap (word s) place
-      ∙ sym (section-read s (placeOn f s 1) (l .shops) (l .«shop_at») _ f (accepted-sections f s l is 1 (omega arith)) .counted)
-    where
-      place : l .«card_at» + 4 * l .cards ≡ placeOn f s 1
-      place = sym (ap behind (accepted-sections f s l is 0 (omega arith)) ∙ ap (λ n. l .«card_at» + n) (wide-old (l .cards)))
+      let place : l .«card_at» + 4 * l .cards ≡ countPlace l 1 = omega (arith, places) in
+      ap (word s) place ∙ count-stands f s l is 1 (omega arith)
 
   row-count : word s (l .«shop_at» + 4 * l .shops) ≡ l .rows
   row-count =

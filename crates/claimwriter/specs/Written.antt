@@ -12,6 +12,7 @@
 --   section n f            a section: its count, then its records
 --   fileBytes d            the whole file
 --   layoutFor cards shops rows     how a file with so many records is laid out, for day 0
+--   layoutIn x             the layout of an accepted file, by its reading; for one that is refused, that of a file without records
 --   lengthFor cards shops rows     how many bytes it has
 --   layoutOf d, lengthOf d the same for the file of these contents
 --   TwoSided d             every side but 0 is the shop side: its groups are those of side 1
@@ -31,6 +32,8 @@ use Rattle.claimfile.specs.declared.Group.{Group}
 use Rattle.claimfile.specs.declared.Claim.{Claim}
 use Rattle.claimfile.specs.File.{days, groupWidth, claimWidth}
 use Rattle.claimfile.specs.Sound.{SmallerOrTop}
+use Rattle.reader.specs.declared.Reading.{Reading}
+use Rattle.reader.specs.declared.Reading.the-variants.{Accepted, Refused}
 
 pub record WeekGroup : Type 0 where
   pub parent : ℕ
@@ -88,6 +91,10 @@ layoutFor cards shops rows = record {
   «shop_at» = 4 + groupWidth true * cards;
   «row_at» = 6 + groupWidth true * (cards + shops);
 }
+
+abbrev pub layoutIn : Reading → Layout
+layoutIn (Accepted l) = l
+layoutIn (Refused why) = layoutFor 0 0 0
 
 abbrev pub lengthFor : ℕ → ℕ → ℕ → ℕ
 lengthFor cards shops rows = 6 + groupWidth true * (cards + shops) + claimWidth * rows

@@ -1,16 +1,18 @@
 // Writing a claim file: the week layout for given counts, and the counts and records put at their places in a lent buffer.
 //
 // The counts are put once; records may be put in any order, and a group that was put can be read back. A buffer that has them all
-// starts with the file (`written-cells`, proofs/WrittenLaws.antt).
+// starts with the file (`written-cells`, proofs/WrittenLaws.antt). The counts of an accepted file give its layout back (`layout_in`).
 ghost use mathlib.Core.Path.{_≡_};
 ghost use Prim.Native.Nat.{_+_, _*_, _<_, _≤_};
 ghost use mathlib.Core.List.{_++_};
 ghost use lib.ListN.{length};
 ghost use Rattle.theory.specs.Bounds.{maxGroups, maxRows};
 ghost use Rattle.theory.specs.Matroid.{row};
-ghost use Rattle.claimfile.specs.File.{days};
+ghost use Rattle.claimfile.specs.File.{days, newWeek};
 ghost use Rattle.claimfile.specs.Day.{countOf, groupOf, onDay};
-ghost use Rattle.claimwriter.specs.Written.{weekGroup, bytesOf, records, groupBytes, claimBytes, layoutFor, lengthFor};
+ghost use Rattle.reader.specs.Reading.{reading};
+ghost use Rattle.reader.specs.declared.Reading.the-variants.{Accepted};
+ghost use Rattle.claimwriter.specs.Written.{weekGroup, bytesOf, records, groupBytes, claimBytes, layoutFor, layoutIn, lengthFor};
 ghost use Rattle.claimwriter.specs.Put.{Put, groupPlace, claimPlace, Laid, Room, CountsPut};
 use claimfile::CLAIM_WIDTH;
 use claimfile::Claim;
@@ -19,7 +21,9 @@ use claimfile::Group;
 use claimfile::Layout;
 use claimfile::WEEK_WIDTH;
 use claimfile::group_at;
+use claimfile::on_day;
 use claimfile::start_of;
+use claimfile::u16_at;
 
 // The layout of a file with so many card groups, shop groups and claims.
 pub fn layout_for(cards: usize, shops: usize, rows: usize) -> Layout
@@ -36,6 +40,18 @@ pub fn layout_for(cards: usize, shops: usize, rows: usize) -> Layout
         shop_at: 4 + WEEK_WIDTH * cards,
         row_at: 6 + WEEK_WIDTH * (cards + shops),
     }
+}
+
+// The layout of a file that was read before and accepted, as a new one in the week layout for a day: by its three counts alone, no record
+// is judged again.
+pub fn layout_in(file: &[u8], day: usize) -> Layout
+    requires { ⌜ reading (newWeek day) (now file) ≡ Accepted (layoutIn (reading (newWeek day) (now file))) ⌝ }
+    ensures { λ r. ⌜ r ≡ layoutIn (reading (newWeek day) (now (file .entry))) ⌝ }
+{
+    let cards = u16_at(file, 0);
+    let shops = u16_at(file, 2 + WEEK_WIDTH * cards);
+    let rows = u16_at(file, 4 + WEEK_WIDTH * (cards + shops));
+    on_day(layout_for(cards, shops, rows), day)
 }
 
 // How many bytes a file with this layout has.

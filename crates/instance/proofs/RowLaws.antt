@@ -3,7 +3,7 @@
 --   power-none power-one power-two power-three    the weight of a kind
 --   hung-ordinary hung-earned    where a claim hangs on the card side
 --   card-hung shop-hung          where a row hangs, by its claim
---   weighed                      the weight of a row, by its claim
+--   weighed                      the weight of a row among so many, by its claim
 use mathlib.Core.Path.{_≡_, sym, ap, _∙_}
 use mathlib.Core.Logic.{_≢_}
 use mathlib.Core.List.{List}
@@ -64,6 +64,6 @@ module _ (s : List ℕ) (l : Layout) (c : ℕ) (claim : Claim) (is : claim ≡ d
   pub shop-hung : l .cards + claim .shop ≡ day.shopNode s l c
   shop-hung = ap (λ (x : Claim). l .cards + x .shop) is ∙ sym (shop-node s l c)
 
-  pub weighed : (l .rows + 1) ^ claim .kind ≡ priority.weightOf (l .rows) (day.kindOf s l) c
+  pub weighed : (rows : ℕ) → (rows + 1) ^ claim .kind ≡ priority.weightOf rows (day.kindOf s l) c
   unfolding priority.weightOf
-  weighed = ap (λ (x : Claim). (l .rows + 1) ^ x .kind) is
+  weighed rows = ap (λ (x : Claim). (rows + 1) ^ x .kind) is

@@ -1,21 +1,26 @@
 // What each call answers, in the numbers that C takes: one function for each enum that a call answers. It gives the struct of crate
 // `answers` with document 01's number and values: the refusal's number and zeros, or 0 and what was found.
 ghost use mathlib.Core.Path.{_≡_};
-ghost use Prim.Native.Nat.{_≤_};
+ghost use Prim.Native.Nat.{_≤_, _<_};
 ghost use Rattle.theory.specs.Bounds.{maxRows, maxLimit};
 ghost use Rattle.limits.specs.Answers.{rankedNumbers};
 ghost use Rattle.spare.specs.Spare.{spareNumbers};
 ghost use Rattle.closing.specs.Settle.{settledNumbers};
 ghost use Rattle.kinds.specs.Settle.{settledKindsNumbers};
+ghost use Rattle.members.specs.Members.{mostFiles};
+ghost use Rattle.joined.specs.Call.{joinedNumbers};
 ghost use Rattle.refusal.specs.Writing.{writtenNumbers};
 use answers::FitsAndRankAnswer;
 use answers::SettleAnswer;
+use answers::SettleJoinedAnswer;
 use answers::SettleKindsAnswer;
 use answers::SparePlacesAnswer;
 use answers::WriteAnswer;
 use closing::Settled;
+use joined::Joint;
 use kinds::SettledKinds;
 use limits::Ranked;
+use refusal::Reason;
 use refusal::Written;
 use refusal::number;
 use spare::Spare;
@@ -96,6 +101,36 @@ pub fn settled_kinds_numbers(answer: SettledKinds) -> SettleKindsAnswer
             kind1: 0,
             kind2: 0,
             kind3: 0,
+            kept: 0,
+            total: 0,
+        },
+    }
+}
+
+// The numbers for an answer of settling several counters together.
+pub fn joined_numbers(answer: Joint) -> SettleJoinedAnswer
+    requires { ⌜ joinedNumbers answer .file < mostFiles ⌝ }
+    ensures { λ r. ⌜ r ≡ joinedNumbers answer ⌝ }
+{
+    match answer {
+        Joint::Closed(day) => SettleJoinedAnswer {
+            refusal: 0,
+            file: 0,
+            earned: day.earned as u64,
+            kept: day.kept as u64,
+            total: day.total as u64,
+        },
+        Joint::Member { file, refusal } => SettleJoinedAnswer {
+            refusal: number(Reason::File(refusal)),
+            file: file as u32,
+            earned: 0,
+            kept: 0,
+            total: 0,
+        },
+        Joint::Refused(why) => SettleJoinedAnswer {
+            refusal: number(why),
+            file: 0,
+            earned: 0,
             kept: 0,
             total: 0,
         },

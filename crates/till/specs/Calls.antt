@@ -2,6 +2,7 @@
 --   FitsAndRankIs f s sel side r   `Answered` says what that answer is and means
 --   SparePlacesIs f s sel x r      `Spared` says so
 --   SettleIs f .. r        `Settles` says what that answer is and what is left in the lent buffers
+--   SettleJoinedIs day b ls oven .. r  `JoinsAs` says so of the files in a buffer b, with the list ls of their lengths
 --   WriteIs o out′ r       `Leaves` says that this answer and the cells out′ of the buffer are the outcome o
 --   CodesAre f s codes t codes′ t′ r   `Writes` says what that answer is and what is left in the lent buffers
 --   AcceptIs f s ch sheet r    the answer is a verdict, its number is 0 where the closing is accepted, and `Judges` says what that
@@ -11,12 +12,14 @@ use Prim.Native.Nat.{ℕ}
 use Rattle.answers.specs.declared.FitsAndRankAnswer.{FitsAndRankAnswer}
 use Rattle.answers.specs.declared.SparePlacesAnswer.{SparePlacesAnswer}
 use Rattle.answers.specs.declared.SettleAnswer.{SettleAnswer}
+use Rattle.answers.specs.declared.SettleJoinedAnswer.{SettleJoinedAnswer}
 use Rattle.answers.specs.declared.WriteAnswer.{WriteAnswer}
 use Rattle.claimfile.specs.declared.Form.{Form}
 use Rattle.refusal.specs.Writing.{Outcome, writtenNumbers, Leaves}
 use Rattle.limits.specs.Answers.{rankedNumbers, Answered}
 use Rattle.spare.specs.Spare.{spareNumbers, Spared}
 use Rattle.closing.specs.Settle.{settledNumbers, Settles}
+use Rattle.joined.specs.Call.{joinedNumbers, JoinsAs}
 use Rattle.codes.specs.Write.{Writes}
 use Rattle.accept.specs.Accept.{verdictNumber, Judges}
 use Rattle.numbers.specs.Numbers.{InNumbers}
@@ -30,6 +33,11 @@ SparePlacesIs f s sel x r = InNumbers spareNumbers (Spared f s sel x) r
 abbrev pub SettleIs :
     Form → List ℕ → List ℕ → List ℕ → List ℕ → List ℕ → List ℕ → List ℕ → SettleAnswer → Type 0
 SettleIs f s ch sheet t ch′ sheet′ t′ r = InNumbers settledNumbers (Settles f s ch sheet t ch′ sheet′ t′) r
+
+abbrev pub SettleJoinedIs :
+    ℕ → List ℕ → List ℕ → ℕ → List ℕ → List ℕ → List ℕ → List ℕ → List ℕ → List ℕ → SettleJoinedAnswer → Type 0
+SettleJoinedIs day b ls oven ch sheet t ch′ sheet′ t′ r =
+    InNumbers joinedNumbers (JoinsAs day b ls oven ch sheet t ch′ sheet′ t′) r
 
 abbrev pub WriteIs : Outcome → List ℕ → WriteAnswer → Type 0
 WriteIs o out′ r = InNumbers writtenNumbers (Leaves o out′) r

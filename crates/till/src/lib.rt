@@ -11,13 +11,14 @@ ghost use Rattle.till.specs.Version.{version};
 mod accept_closing;
 mod fits_and_rank;
 mod settle;
+mod settle_joined;
 mod spare_places;
 mod write_canonical;
 mod write_codes;
 mod write_slip;
 
 // Which library this is. It rises by one with each change of a call, a needed length or an answer.
-pub const VERSION: u32 = 11;
+pub const VERSION: u32 = 12;
 
 // The version, for a box to be asked.
 #[no_mangle]

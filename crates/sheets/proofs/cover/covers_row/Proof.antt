@@ -93,7 +93,7 @@ returns c =
     covers-is (a .file .now) (a .layout) (start .pre .0 .sound) (start .pre .0 .kinds) (a .sheet .now) (a .prices .now) (start .pre .1)
     (a .c) (start .pre .2) _ (c .wide .result) _ _ _
     (weighed-as .long .ensures ∙ weighed-as .before .power .ensures .0
-    ∙ weighed (a .file .now) (a .layout) (a .c) _ (read card .claim-of .ensures .0))
+    ∙ weighed (a .file .now) (a .layout) (a .c) _ (read card .claim-of .ensures .0) (a .layout .rows))
     (omega (arith, c .wide .ensures .0)) (card-is card) (shop-is shop) (priced .price-of .ensures .0)
 
 pub covers-row-spec : {M : Type 1} → statement M

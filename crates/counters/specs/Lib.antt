@@ -1,0 +1,2 @@
+-- Several days under one oven, as one day.
+pub mod Joined

@@ -1,0 +1,2 @@
+-- What writing the tables of a joined day asks and leaves (Filled).
+pub mod Filled

@@ -1,0 +1,4 @@
+-- Laws of several files in one buffer.
+pub mod GatherLaws
+pub mod FoundLaws
+pub mod Examples
