@@ -23,7 +23,7 @@ use Rattle.closing.specs.Settle.{scratchFor}
 use Rattle.closing.proofs.SettleLaws.{in-first, tables-given}
 use Rattle.counters.specs.Joined.{joinedNet, joined}
 use Rattle.members.specs.Members.{memberOf, layoutsOf}
-use Rattle.joinfile.specs.Files.{SameDay}
+use Rattle.joinfile.specs.Files.{DaysAgree}
 use Rattle.joinfile.proofs.FileLaws.{joined-sound, joined-kinds}
 use Rattle.joinfile.proofs.DayLaws.{joined-groups, joined-same}
 use Rattle.jointables.specs.Filled.{daysOf, JoinGiven, JoinWrote}
@@ -31,12 +31,12 @@ use Rattle.joined.specs.Call.{together}
 use Rattle.joined.specs.Close.{Joins}
 
 weight-same :
-    (i j : Instance) → SameDay i j → (c : ℕ) → c < i .net .rows →
+    (i j : Instance) → DaysAgree i j → (c : ℕ) → c < i .net .rows →
     priority.weightOf (j .net .rows) (j .kind) c ≡ priority.weightOf (i .net .rows) (i .kind) c
 unfolding priority.weightOf
 weight-same i j S c h = ap₂ (λ n k. (n + 1) ^ k) (sym (S .net .rows)) (sym (S .kinds c h))
 
-pub tabled-same : (i j : Instance) (sh : Shape) (t : List ℕ) → SameDay i j → Tabled j sh t → Tabled i sh t
+pub tabled-same : (i j : Instance) (sh : Shape) (t : List ℕ) → DaysAgree i j → Tabled j sh t → Tabled i sh t
 tabled-same i j sh t S T = record {
   parents = λ v h. T .parents v (omega (arith, S .net .groups)) ∙ sym (S .net .parent v h);
   limits = λ v h. T .limits v (omega (arith, S .net .groups)) ∙ ap (capped maxSpare) (sym (S .limits v h));
@@ -56,9 +56,9 @@ module _ (day : ℕ) (b ls : List ℕ) (oven : ℕ) (l : Layout) (J : Joins day 
       subst (Kinds firstTerms (together day b ls oven)) (sym (J .layout))
       (joined-kinds (length ls) (memberOf b ls) (layoutsOf day b ls) oven day (J .read .all) (J .small))
 
-  pub join-same : day < days → SameDay (instanceOf (together day b ls oven) l) (joined (length ls) (daysOf day b ls) oven)
+  pub join-same : day < days → DaysAgree (instanceOf (together day b ls oven) l) (joined (length ls) (daysOf day b ls) oven)
   join-same week =
-      subst (λ (x : Layout). SameDay (instanceOf (together day b ls oven) x) (joined (length ls) (daysOf day b ls) oven))
+      subst (λ (x : Layout). DaysAgree (instanceOf (together day b ls oven) x) (joined (length ls) (daysOf day b ls) oven))
       (sym (J .layout))
       (joined-same (length ls) (memberOf b ls) (layoutsOf day b ls) oven day (J .read .all) (J .small) week)
 

@@ -38,7 +38,7 @@ use Rattle.members.specs.declared.Judged.{Judged}
 use Rattle.members.specs.declared.Judged.the-variants as judged-is
 use Rattle.members.specs.Members.{memberOf, layoutsOf, judged}
 use Rattle.members.proofs.FoundLaws.{ready-found}
-use Rattle.joinfile.specs.Files.{SameDay}
+use Rattle.joinfile.specs.Files.{DaysAgree}
 use Rattle.joinfile.proofs.FileLaws.{joined-accepted}
 use Rattle.joinfile.proofs.DayLaws.{joined-same, alone-in-file}
 use Rattle.jointables.specs.Filled.{daysOf}
@@ -71,7 +71,7 @@ module _ (day : ℕ) (b ls : List ℕ) (oven : ℕ) (bytes : (i : ℕ) → getD 
       (z : Sizes) → judged day b ls ≡ judged-is.Ready z →
       (reading (storedWeek day) (together day b ls oven) ≡ Accepted (layoutFor day b ls oven))
       × (day < days →
-      SameDay (instanceOf (together day b ls oven) (layoutFor day b ls oven)) (joined (length ls) (daysOf day b ls) oven))
+      DaysAgree (instanceOf (together day b ls oven) (layoutFor day b ls oven)) (joined (length ls) (daysOf day b ls) oven))
   joined-day z ready =
       let all = ready-found day b ls bytes z ready .read .all in (
         joined-accepted (length ls) (memberOf b ls) (layoutsOf day b ls) oven day all small,

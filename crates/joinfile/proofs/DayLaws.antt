@@ -1,7 +1,6 @@
 -- The day of the joined file is the joined day. Both have the same groups one after the other, each file's moved by the groups before it; a
 -- group's parent is moved in the file as its node is in the day, and the oven stands for the root over each file's shop groups in both. The
 -- members are new files, whose limits are the written ones, and from the written limits both lower alike.
---   above-group above-top      the node above a group, by its record: a group, or the root
 --   up-card up-shop written-card written-shop      a group of either side, by its record
 --   joined-groups          how many groups the joined file has
 --   joined-same            its day agrees with the joined day at every group and every row
@@ -12,7 +11,6 @@ use Prim.Native.Nat.{ℕ, _+_, _-_, _≤_, _<_}
 use native.Mathlib.Nat.{zero-add}
 use native.Mathlib.Decide.{ℕ-discrete, decLt}
 use native.Mathlib.Omega.{arith}
-use borrow.Author.Tests.{lt-ltb, le-ltb}
 use Rattle.theory.specs.Sum.{sum}
 use Rattle.theory.specs.Lowered.{lesser, lowered}
 use Rattle.theory.specs.Network.{Instance}
@@ -39,20 +37,13 @@ use Rattle.counters.proofs.PartLaws.{part-end, each-part}
 use Rattle.counters.proofs.JoinLaws as join
 use Rattle.counters.proofs.AloneLaws.{alone}
 use Rattle.members.specs.Accepted.{Members}
-use Rattle.joinfile.specs.Files.{renumbered, cardsIn, shopsIn, rowsIn, claimIn, joinedFile, joinedLayout}
-use Rattle.joinfile.specs.Files.{contentsOf, members, SameDay}
-use Rattle.joinfile.proofs.FileLaws.{renumber-group, renumber-top, card-inside, shop-inside, oven-limit, card-read, shop-read}
+use Rattle.joinfile.specs.Files.{cardsIn, shopsIn, rowsIn, claimIn, joinedFile, joinedLayout}
+use Rattle.joinfile.specs.Files.{contentsOf, members, DaysAgree}
+use Rattle.joinfile.proofs.FileLaws.{above-group, above-top, card-inside, shop-inside, oven-limit, card-read, shop-read}
 use Rattle.joinfile.proofs.FileLaws.{claim-read, joined-kinds, joined-kind}
 
 --------------------------------------------------------------------------------
 -- A group by its record
-
-module _ (own parent first root : ℕ) where
-  pub above-group : parent < own → day.above own parent first root ≡ first + parent
-  above-group h = rw (lt-ltb _ _ h)
-
-  pub above-top : own ≤ parent → day.above own parent first root ≡ root
-  above-top h = rw (le-ltb _ _ h)
 
 module _ (s : List ℕ) (l : Layout) (g : ℕ) where
   pub up-card : g < l .cards → day.parentOf s l g ≡ day.above g (day.groupOf s l 0 g .parent) 0 (day.groupsOf l)
@@ -144,12 +135,12 @@ module _ (n : ℕ) (s : ℕ → List ℕ) (l : ℕ → Layout) (oven today : ℕ
         inside = card-inside n d oven k file g h
 
         cases :
-            day.above (sum k cards + g) (renumbered (sum k cards) top g (parentIn 0 k g)) 0 (day.groupsOf L)
+            day.above (sum k cards + g) (day.above g (parentIn 0 k g) (sum k cards) top) 0 (day.groupsOf L)
             ≡ cardUp n m k (day.above g (parentIn 0 k g) 0 (day.groupsOf (l k)))
         cases =
             elim (decLt (parentIn 0 k g) g) [
               | yes q ↦
-                  ap (λ p. day.above (sum k cards + g) p 0 (day.groupsOf L)) (renumber-group (sum k cards) top g (parentIn 0 k g) q)
+                  ap (λ p. day.above (sum k cards + g) p 0 (day.groupsOf L)) (above-group g (parentIn 0 k g) (sum k cards) top q)
                   ∙ above-group (sum k cards + g) (sum k cards + parentIn 0 k g) 0 (day.groupsOf L) (omega arith)
                   ∙ sym
                   (ap (cardUp n m k) (above-group g (parentIn 0 k g) 0 (day.groupsOf (l k)) q)
@@ -157,7 +148,7 @@ module _ (n : ℕ) (s : ℕ → List ℕ) (l : ℕ → Layout) (oven today : ℕ
                   ∙ omega arith)
               | no q ↦
                   ap (λ p. day.above (sum k cards + g) p 0 (day.groupsOf L))
-                  (renumber-top (sum k cards) top g (parentIn 0 k g) (omega arith))
+                  (above-top g (parentIn 0 k g) (sum k cards) top (omega arith))
                   ∙ above-top (sum k cards + g) top 0 (day.groupsOf L) (omega (arith, inside, all .cards-most))
                   ∙ joined-groups
                   ∙ sym
@@ -179,13 +170,13 @@ module _ (n : ℕ) (s : ℕ → List ℕ) (l : ℕ → Layout) (oven today : ℕ
         ∙ ap (shopUp n m k) (up-shop (s k) (l k) g h))
       where
         cases :
-            day.above (1 + (sum k shops + g)) (renumbered (1 + sum k shops) 0 g (parentIn 1 k g)) oven-at (day.groupsOf L + 1)
+            day.above (1 + (sum k shops + g)) (day.above g (parentIn 1 k g) (1 + sum k shops) 0) oven-at (day.groupsOf L + 1)
             ≡ shopUp n m k (day.above g (parentIn 1 k g) (l k .cards) (day.groupsOf (l k) + 1))
         cases =
             elim (decLt (parentIn 1 k g) g) [
               | yes q ↦
                   ap (λ p. day.above (1 + (sum k shops + g)) p oven-at (day.groupsOf L + 1))
-                  (renumber-group (1 + sum k shops) 0 g (parentIn 1 k g) q)
+                  (above-group g (parentIn 1 k g) (1 + sum k shops) 0 q)
                   ∙ above-group (1 + (sum k shops + g)) (1 + sum k shops + parentIn 1 k g) oven-at (day.groupsOf L + 1) (omega arith)
                   ∙ sym
                   (ap (shopUp n m k) (above-group g (parentIn 1 k g) (l k .cards) (day.groupsOf (l k) + 1) q)
@@ -193,7 +184,7 @@ module _ (n : ℕ) (s : ℕ → List ℕ) (l : ℕ → Layout) (oven today : ℕ
                   ∙ omega (arith, shops-sum k))
               | no q ↦
                   ap (λ p. day.above (1 + (sum k shops + g)) p oven-at (day.groupsOf L + 1))
-                  (renumber-top (1 + sum k shops) 0 g (parentIn 1 k g) (omega arith))
+                  (above-top g (parentIn 1 k g) (1 + sum k shops) 0 (omega arith))
                   ∙ above-group (1 + (sum k shops + g)) 0 oven-at (day.groupsOf L + 1) (omega arith)
                   ∙ sym
                   (ap (shopUp n m k) (above-top g (parentIn 1 k g) (l k .cards) (day.groupsOf (l k) + 1) (omega arith))
@@ -317,7 +308,7 @@ module _ (n : ℕ) (s : ℕ → List ℕ) (l : ℕ → Layout) (oven today : ℕ
     -- Promises
 
     -- "Result, buffers and day are those of settling one joined file."
-    pub joined-same : SameDay (day.instanceOf J L) (joined n m oven)
+    pub joined-same : DaysAgree (day.instanceOf J L) (joined n m oven)
     joined-same = record {
       net = record {
         cards = refl;

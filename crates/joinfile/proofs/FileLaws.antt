@@ -1,6 +1,6 @@
 -- The joined file is written from what the files hold, each file's records moved behind those of the files before it. Numbers of groups stay
 -- below the counts and parents below their groups, so what it holds is within range; what is written so is accepted, and read back.
---   renumber-group renumber-top    the number of a parent in the joined file
+--   above-group above-top  the node above a group, and the number of its parent in the joined file: moved, or what stands over the tops
 --   card-inside shop-inside    a file's groups are among those of the joined file
 --   card-read shop-read claim-read     the records of the joined file as they are read, file by file
 --   oven-limit             the oven's limit as it is read, on any day
@@ -20,7 +20,7 @@ use borrow.Author.Tests.{lt-ltb, le-ltb, ne-eqb}
 use Rattle.theory.specs.Bounds.{maxGroups, maxRows, maxLimit}
 use Rattle.theory.specs.Sum.{sum}
 use Rattle.claimfile.specs.File.{firstTerms, days, storedWeek}
-use Rattle.claimfile.specs.Day.{groupOf, claimOf, kindOf}
+use Rattle.claimfile.specs.Day.{above, groupOf, claimOf, kindOf}
 use Rattle.claimfile.specs.Sound.{Sound, Kinds, SmallerOrTop}
 use Rattle.claimfile.specs.declared.Layout.{Layout}
 use Rattle.claimfile.specs.declared.Group.{Group}
@@ -33,22 +33,22 @@ use Rattle.claimwriter.proofs.WrittenLaws.{written-group, written-claim, writte
 use Rattle.claimwriter.proofs.WeekLaws.{contents-ranged}
 use Rattle.counters.proofs.PartLaws.{part-end, ofPart-is, each-part}
 use Rattle.members.specs.Accepted.{Members}
-use Rattle.joinfile.specs.Files.{renumbered, cardsIn, shopsIn, rowsIn, cardGroupIn, shopGroupIn, claimIn}
+use Rattle.joinfile.specs.Files.{cardsIn, shopsIn, rowsIn, cardGroupIn, shopGroupIn, claimIn}
 use Rattle.joinfile.specs.Files.{joinedContents, joinedFile, joinedLayout, contentsOf}
 
-module _ (before over own parent : ℕ) where
-  pub renumber-group : parent < own → renumbered before over own parent ≡ before + parent
-  renumber-group h = rw (lt-ltb _ _ h)
+module _ (own parent first root : ℕ) where
+  pub above-group : parent < own → above own parent first root ≡ first + parent
+  above-group h = rw (lt-ltb _ _ h)
 
-  pub renumber-top : own ≤ parent → renumbered before over own parent ≡ over
-  renumber-top h = rw (le-ltb _ _ h)
+  pub above-top : own ≤ parent → above own parent first root ≡ root
+  above-top h = rw (le-ltb _ _ h)
 
-  -- a group that stands behind `before` others may have the renumbered parent
-  renumber-fits : (at : ℕ) → before + own ≡ at → SmallerOrTop at over → SmallerOrTop at (renumbered before over own parent)
-  renumber-fits at is fits =
+  -- a group that stands behind `first` others may have the parent that is moved by them
+  above-fits : (at : ℕ) → first + own ≡ at → SmallerOrTop at root → SmallerOrTop at (above own parent first root)
+  above-fits at is fits =
       elim (decLt parent own) [
-        | yes h ↦ inl (omega (arith, renumber-group h))
-        | no h ↦ subst (SmallerOrTop at) (sym (renumber-top (omega arith))) fits
+        | yes h ↦ inl (omega (arith, above-group h))
+        | no h ↦ subst (SmallerOrTop at) (sym (above-top (omega arith))) fits
       ]
 
 module _ (n : ℕ) (d : ℕ → Contents) (oven : ℕ) where
@@ -150,11 +150,11 @@ module _ (n : ℕ) (d : ℕ → Contents) (oven : ℕ) where
       parents zero =
           each-part cards n (λ g. SmallerOrTop g (D .group 0 g .parent))
           (λ k file g h.
-          fits (card-content k file g h) (renumber-fits _ _ g (d k .group 0 g .parent) _ (omega arith) (inr refl)))
+          fits (card-content k file g h) (above-fits g (d k .group 0 g .parent) _ _ _ (omega arith) (inr refl)))
       parents (suc side) =
           each-shop (λ g. SmallerOrTop g (D .group 1 g .parent)) (inr refl)
           (λ k file g h.
-          fits (shop-content k file g h) (renumber-fits _ _ g (d k .group 1 g .parent) _ (omega arith) (inl (omega arith))))
+          fits (shop-content k file g h) (above-fits g (d k .group 1 g .parent) _ _ _ (omega arith) (inl (omega arith))))
 
       limits : (t side g : ℕ) → t < days → g < recordsOn D side → D .group side g .limit t ≤ maxLimit
       limits t zero g within =

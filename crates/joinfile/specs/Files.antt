@@ -1,9 +1,8 @@
 -- The joined file of document 02, E13, by what the files hold: "its shop group 0 has the oven limit and stands above all top shop groups, the
 -- files' groups and rows follow in file order".
 --   cardsIn, shopsIn, rowsIn   how many records each section of file k has
---   renumbered before over own parent  the number of a parent in the joined file: `before` groups of the side stand before the file's own, and
---                          `over` is the parent of those at its top
---   groupIn side before over k g   the record of group g of a side of file k, with its parent renumbered
+--   groupIn side before over k g   the record of group g of a side of file k, where `before` groups of the side stand before the file's own
+--                          and `over` is the parent of those at its top: the number of its parent is moved as the node above it is (`above`)
 --   cardGroupIn, shopGroupIn   that of card group g and of shop group g of file k, in the joined file
 --   ovenGroup oven         that of the oven: at the top, with its limit on all seven days
 --   claimIn k c            that of row c of file k
@@ -13,25 +12,22 @@
 --   joinedLayout           how it is laid out, for a day
 --   contentsOf s l         what the files s k hold, where l k is the layout of s k
 --   members s l            the days that they hold
---   SameDay i j            two days that agree at every group and every row
+--   DaysAgree i j          two days that agree at every group and every row
 -- `d k` is what file k holds, of n files. The joined file is a stored file in the week layout: a limit above the oven's is lowered to it.
 use mathlib.Core.Path.{_≡_}
 use mathlib.Core.List.{List}
 use Prim.Native.Nat.{ℕ, zero, suc, _+_, _-_, _<_}
-use lib.Dec.{ltb, eqb}
+use lib.Dec.{eqb}
 use Rattle.theory.specs.Sum.{pick, sum}
 use Rattle.theory.specs.Network.{Instance}
 use Rattle.theory.specs.Formed.{Alike}
 use Rattle.claimfile.specs.File.{top}
-use Rattle.claimfile.specs.Day.{instanceOf, onDay}
+use Rattle.claimfile.specs.Day.{above, instanceOf, onDay}
 use Rattle.claimfile.specs.declared.Layout.{Layout}
 use Rattle.claimfile.specs.declared.Claim.{Claim}
 use Rattle.claimwriter.specs.Written.{WeekGroup, weekGroup, Contents, fileBytes, layoutOf}
 use Rattle.claimwriter.specs.Week.{contentsIn}
 use Rattle.counters.specs.Joined.{ofPart}
-
-abbrev pub renumbered : ℕ → ℕ → ℕ → ℕ → ℕ
-renumbered before over own parent = pick (ltb parent own) (before + parent) over
 
 -- "its shop group 0 has the oven limit"
 abbrev pub ovenGroup : ℕ → WeekGroup
@@ -49,7 +45,7 @@ module _ (n : ℕ) (d : ℕ → Contents) where
 
   abbrev pub groupIn : ℕ → ℕ → ℕ → ℕ → ℕ → WeekGroup
   groupIn side before over k g =
-      weekGroup (renumbered before over g (d k .group side g .parent)) (d k .group side g .limit)
+      weekGroup (above g (d k .group side g .parent) before over) (d k .group side g .limit)
 
   abbrev pub cardGroupIn : ℕ → ℕ → WeekGroup
   cardGroupIn k g = groupIn 0 (sum k cardsIn) top k g
@@ -90,7 +86,7 @@ contentsOf s l k = contentsIn (s k) (l k)
 abbrev pub members : (ℕ → List ℕ) → (ℕ → Layout) → ℕ → Instance
 members s l k = instanceOf (s k) (l k)
 
-pub record SameDay (i j : Instance) : Type 0 where
+pub record DaysAgree (i j : Instance) : Type 0 where
   pub net : Alike (i .net) (j .net)
   pub limits : (v : ℕ) → v < i .net .groups → i .limit v ≡ j .limit v
   pub kinds : (c : ℕ) → c < i .net .rows → i .kind c ≡ j .kind c

@@ -17,7 +17,8 @@ use Rattle.counters.specs.Joined.{cardsOf, shopsOf, ovenNode, firstShop, allGro
 use Rattle.counters.proofs.JoinLaws as join
 use Rattle.members.specs.Accepted.{Members}
 use Rattle.joinfile.specs.Files.{members}
-use Rattle.joinfile.proofs.DayLaws.{above-group, above-top, up-card, up-shop, written-card, written-shop}
+use Rattle.joinfile.proofs.FileLaws.{above-group, above-top}
+use Rattle.joinfile.proofs.DayLaws.{up-card, up-shop, written-card, written-shop}
 
 module _ (n : ℕ) (m : ℕ → Instance) where
   abbrev pub cardAt : ℕ → ℕ → ℕ
