@@ -50,9 +50,22 @@ void ours_settle_by(const struct sort *by, unsigned weekday, const struct file *
     settle_by(by->settle, weekday, file->bytes, file->length, out);
 }
 
+/* The tally that the calls are made on; one in which no row is in, and one in which the kept rows are in. */
+static struct claims_tally tally, empty_tally, full_tally;
+
 void ours_keep(unsigned layout, const struct file *file, struct outcome *out) {
-    ours_settle_by(&sorts[layout == WEEK ? STORED_WEEK : STORED_OLD], 0, file, out);
+    const struct sort *by = &sorts[layout == WEEK ? STORED_WEEK : STORED_OLD];
+    ours_settle_by(by, 0, file, out);
+    by->tally_begin(file->bytes, file->length, 0, &empty_tally);
+    full_tally = empty_tally;
+    for (unsigned row = 0; row < MOST_ROWS; row++)
+        if (out->choice[row]) claims_tally_put_in(&full_tally, row);
 }
+
+unsigned ours_begin(const struct file *file) { return claims_tally_begin(file->bytes, file->length, 0, &tally); }
+unsigned ours_put_in(unsigned row) { return claims_tally_put_in(&tally, row); }
+unsigned ours_take_out(unsigned row) { return claims_tally_take_out(&tally, row); }
+unsigned ours_count(unsigned side, unsigned group) { return claims_tally_count(&tally, side, group).count; }
 
 int ours_certified(const struct day *d, const uint8_t *choice) { return certified(d, KINDS, choice, sheet); }
 
@@ -162,6 +175,30 @@ static void make_settle_joined(const struct sort *by, const struct file *day, co
                          sheet, MOST_MARKS, scratch, CLAIMS_LONGEST_SCRATCH);
 }
 
+static void make_tally_begin(const struct sort *by, const struct file *day, const uint8_t *selection) {
+    (void)selection;
+    by->tally_begin(day->bytes, day->length, DAY_NAMED, &tally);
+}
+
+/* The tallies are begun before, away from the stack that is measured. Each row is put in, or taken out, and one that there is not. */
+static void make_put_in(const struct sort *by, const struct file *day, const uint8_t *selection) {
+    (void)by, (void)day, (void)selection;
+    tally = empty_tally;
+    for (unsigned row = 0; row <= MOST_ROWS; row++) claims_tally_put_in(&tally, row);
+}
+
+static void make_take_out(const struct sort *by, const struct file *day, const uint8_t *selection) {
+    (void)by, (void)day, (void)selection;
+    tally = full_tally;
+    for (unsigned row = 0; row <= MOST_ROWS; row++) claims_tally_take_out(&tally, row);
+}
+
+static void make_count(const struct sort *by, const struct file *day, const uint8_t *selection) {
+    (void)by, (void)day, (void)selection;
+    for (unsigned side = 0; side < 3; side++)
+        for (unsigned group = 0; group <= MOST_GROUPS; group++) claims_tally_count(&full_tally, side, group);
+}
+
 static void make_version(const struct sort *by, const struct file *day, const uint8_t *selection) {
     (void)by, (void)day, (void)selection;
     claims_version();
@@ -182,6 +219,10 @@ const struct call calls[] = {
     EACH_SORT("claims_write_canonical", make_canonical),
     EACH_SORT("claims_write_codes", make_codes),
     EACH_SORT("claims_accept", make_accept),
+    EACH_SORT("claims_tally_begin", make_tally_begin),
+    {"claims_tally_put_in", make_put_in, NULL},
+    {"claims_tally_take_out", make_take_out, NULL},
+    {"claims_tally_count", make_count, NULL},
     {"claims_settle_joined", make_settle_joined, NULL},
     {"claims_version", make_version, NULL},
 };

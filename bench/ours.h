@@ -11,7 +11,10 @@
 
 void ours_settle(const uint8_t *file, size_t length, struct outcome *out);
 
-/* The rows that are kept of a file in a layout, a stored one where there is a call for it. */
+/*
+ * The rows that are kept of a file in a layout, a stored one where there is a call for it. Under the first terms two tallies are begun too,
+ * for the calls on a tally in the table below: one is left empty, and the kept rows are put into the other.
+ */
 void ours_keep(unsigned layout, const struct file *file, struct outcome *out);
 
 /* The file judged and nothing more: 0, or the number of the first fault. */
@@ -40,6 +43,12 @@ unsigned ours_codes(const uint8_t *file, size_t length, uint8_t *codes);
 
 /* Whether a choice is accepted with the sheet that our last settling left: 0, or the number. The sheet may be changed before. */
 unsigned ours_accept(const uint8_t *file, size_t length, const uint8_t *choice, size_t choices, unsigned weekday);
+
+/* Our tally: it is begun, a row is put in or taken out, or a count is read. The first three answer the refusal, the last the count. */
+unsigned ours_begin(const struct file *file);
+unsigned ours_put_in(unsigned row);
+unsigned ours_take_out(unsigned row);
+unsigned ours_count(unsigned side, unsigned group);
 
 #endif
 

@@ -107,7 +107,7 @@ int main(int count, char **words) {
 
     claims_accept_call *accept = count == 6 ? sort_of(words[5]) : claims_accept;
     uint32_t day;
-    if (!day_named(words[4], &day)) {
+    if (!number_named(words[4], &day)) {
         fprintf(stderr, "the day has to be one whole number, 0 to 6, and not '%s'\n", words[4]);
         return NOT_JUDGED;
     }

@@ -1,7 +1,7 @@
 /*
  * All calls on a file, for tests: they are made one after another with the same selection and the same lengths, and what they answer and
- * leave stands in one struct. A file that is refused is refused by all of them, and nothing is changed; by the call for several counters too,
- * where the file is of the sort that it takes.
+ * leave stands in one struct. A file that is refused is refused by all of them, and by the call for several counters too, where the file is
+ * of the sort that it takes. Nothing is changed, except that the beginning of a tally leaves one without rows or groups.
  */
 #ifndef CALLS_H
 #define CALLS_H
@@ -45,7 +45,8 @@ struct told {
     struct claims_write_slip_answer slip;
     struct claims_write_canonical_answer canonical;
     struct claims_write_codes_answer codes;
-    uint32_t accepted;
+    uint32_t accepted, begun;
+    struct claims_tally tally; /* before the call every byte of it is FILL too */
     struct lent lent;
 };
 
@@ -65,9 +66,11 @@ static inline void ask(const struct sort *by, const struct file *f, unsigned wee
     t->canonical = by->write_canonical(f->bytes, f->length, l->canonical, n->canonical);
     t->codes = by->write_codes(f->bytes, f->length, weekday, l->codes, n->codes, l->codes_scratch, n->scratch);
     t->accepted = by->accept(f->bytes, f->length, l->choice, n->choice, l->sheet, n->sheet, weekday);
+    memset(&t->tally, FILL, sizeof t->tally);
+    t->begun = by->tally_begin(f->bytes, f->length, weekday, &t->tally);
 }
 
-/* Whether the calls that name a day gave the number alone, and changed nothing. */
+/* Whether the calls that name a day and are given lengths gave the number alone, and changed nothing. */
 static inline int calls_gave(const struct told *t, unsigned number) {
     static struct lent before;
     memset(&before, FILL, sizeof before);
@@ -84,6 +87,12 @@ static inline int form_gave(const struct told *t, unsigned number) {
     for (size_t i = 0; i < sizeof t->lent.canonical; i++)
         if (t->lent.canonical[i] != FILL) return 0;
     return t->canonical.refusal == number && t->canonical.length == 0;
+}
+
+/* Whether the beginning of a tally, which is given no length, gave the number and left a tally without rows or groups. */
+static inline int begin_gave(const struct told *t, unsigned number) {
+    static const struct claims_tally empty;
+    return t->begun == number && memcmp(&t->tally, &empty, sizeof empty) == 0;
 }
 
 /*
@@ -115,6 +124,7 @@ static inline void refused_with(const char *what, const struct sort *by, const s
     static struct told t;
     ask(by, f, weekday, n, MOST_ROWS, &t);
     expect(calls_gave(&t, number) && form_gave(&t, number), "%s, %s, day %u: not refused with %u", by->name, what, weekday, number);
+    expect(begin_gave(&t, number), "%s, %s, day %u: a tally is not refused with %u", by->name, what, weekday, number);
     if (by != &sorts[NEW_WEEK]) return;
     for (unsigned count = 1; count <= CLAIMS_MOST_FILES; count++)
         expect(joined_gave(f, count, weekday, n, number), "the last of %u files, %s, day %u: not refused with %u", count, what, weekday,

@@ -1,6 +1,7 @@
 /*
- * A day of bread claims: the calls for the till's own program. c/example.c is a whole program that uses them, c/example_joined.c is one for
- * several counters, c/example_kinds.c is one for the second terms, and c/accept.c is one for other makers of tills.
+ * A day of bread claims: the calls for the till's own program. c/example.c is a whole program that uses them, c/example_tally.c is one that
+ * shows the counts during the day, c/example_joined.c is one for several counters, c/example_kinds.c is one for the second terms, and
+ * c/accept.c is one for other makers of tills.
  *
  * The claim file has three sections, each after its count: card groups, shop groups and claims. Every count and field is unsigned and 16
  * bits wide, low byte first, except the kind, which is one byte. Groups are numbered from 0 within their section, and claims, the file's
@@ -12,8 +13,9 @@
  *
  * A parent is a smaller group number of the same section, or 65535 for a group at the top. A limit is any number from 0 to 65535.
  *
- * A call names the day, 0 to 6, and a group's limit is that day's. The canonical form alone is that of the whole week and names none. A
- * file in the old layout acts as one in the week layout that has each limit seven times: its answers are the same on every day.
+ * A call names the day, 0 to 6, and a group's limit is that day's. The canonical form is that of the whole week and names none; a tally is
+ * begun for a day, and the other calls on it name none. A file in the old layout acts as one in the week layout that has each limit seven
+ * times: its answers are the same on every day.
  *
  * There are four sorts of file, and each call on one file of the first terms stands here four times, with the same arguments and the same
  * form of answer. What stands at the end of its name says which sort it takes:
@@ -24,7 +26,8 @@
  *     _old_stored    a stored file in the old layout
  *
  * The call for several counters takes new files in the week layout, and its name ends in _joined. The two calls under the second terms take
- * a new file in the week layout, and their names end in _kinds.
+ * a new file in the week layout, and their names end in _kinds. A tally is begun from a file, by a call that stands here four times; the
+ * other calls on a tally take no file and stand here once.
  *
  * In a new file no group's limit may be above its parent's, on any of the seven days, whichever is named. A stored file is one taken from
  * the shelf, which was written when any limit was allowed. Its limits are lowered, on each day by itself: from the first group to the
@@ -49,12 +52,13 @@
  * the C library they need memset and memcpy at most. They have no variables of their own and use no heap; docs/PERFORMANCE.md says how
  * much code they have and how much stack they take.
  *
- * The calls keep no state. Only settle, under both terms and for several counters, the slip, the canonical form and the codes change memory
- * that is lent to them, for each sort of file, and only where they answer no refusal. Calls may be made from several threads at once, where
- * what they are lent to change is not shared.
+ * The calls keep no state: a tally is memory of the program's own, as every buffer is. Only settle, under both terms and for several
+ * counters, the slip, the canonical form, the codes, and the calls that begin a tally, put a row in and take a row out change memory that
+ * is lent to them, for each sort of file, and only where they answer no refusal; the beginning of a tally alone writes it in any case.
+ * Calls may be made from several threads at once, where what they are lent to change is not shared. A tally is lent to one call at a time.
  *
- * A pointer must not be null, even where the length beside it is 0, and as many elements must stand there as the length says. Buffers
- * that are lent to one call do not overlap.
+ * A pointer must not be null, even where the length beside it is 0, and as many elements must stand there as the length says. What is lent
+ * to one call does not overlap.
  */
 #ifndef CLAIMS_H
 #define CLAIMS_H
@@ -71,7 +75,7 @@ extern "C" {
  * claims_version() tells the version of the library that a program is linked with. It is in libtill.a alone; both archives of a release
  * have the same version.
  */
-#define CLAIMS_VERSION 12u
+#define CLAIMS_VERSION 13u
 
 /* The most that a file may hold. */
 #define CLAIMS_MOST_GROUPS 256u       /* in one section, card groups or shop groups */
@@ -128,6 +132,7 @@ extern "C" {
  * one told (1 to 7, and 11). Of one group record 3 is judged first and then 11; the calls for stored files do not judge 11. Then comes the
  * length of the selection or of the lent buffers (8), then the day (12), then the values (9), and 10, or 13, 14 and 15, last. Where several
  * files are settled together, 16 comes before all files, then the files are judged, the lowest first, and 17 comes after them and before 8.
+ * Where a tally is begun, the file is judged and then the day. On a tally 9 comes first, and then 18, 19 and 20 in this order.
  */
 #define CLAIMS_CUT_OFF 1u       /* the file ends before or inside a count or record that is due */
 #define CLAIMS_GROUP_COUNT 2u   /* a group count is over 256 */
@@ -137,15 +142,18 @@ extern "C" {
 #define CLAIMS_KIND 6u          /* a kind is neither 0 nor 1; under the second terms: a kind is over 3 */
 #define CLAIMS_TRAILING 7u      /* bytes follow the last claim */
 #define CLAIMS_SHORT 8u         /* a lent buffer or selection is shorter than needed */
-#define CLAIMS_VALUE 9u         /* a selection byte is over 1, the side is over 1, or the row is not below the number of claims */
+#define CLAIMS_VALUE 9u         /* a selection byte or the side is over 1, or the file has no such row or group */
 #define CLAIMS_SELECTED 10u     /* spare places only: the row is already in the selection */
 #define CLAIMS_LIMIT_ABOVE 11u  /* new files only: a group's limit is above its parent's on any of the seven days */
-#define CLAIMS_DAY 12u          /* every call but the canonical form: the day is over 6 */
+#define CLAIMS_DAY 12u          /* every call that names a day: the day is over 6 */
 #define CLAIMS_UNFIT 13u        /* accept only: the choice does not fit */
 #define CLAIMS_UNCOVERED 14u    /* accept only: a claim is not covered */
 #define CLAIMS_UNEQUAL 15u      /* accept only: the totals differ */
 #define CLAIMS_FILES 16u        /* several counters only: no file, more than eight, or lengths that do not add up to the buffer's */
 #define CLAIMS_LARGE 17u        /* several counters only: the joined file would pass 256 groups on a side or 512 claims */
+#define CLAIMS_INSIDE 18u       /* putting a row into a tally: the row is in */
+#define CLAIMS_OUTSIDE 19u      /* taking a row out of a tally: the row is not in */
+#define CLAIMS_FULL 20u         /* putting a row into a tally: with the row a group would count more rows than its limit */
 
 /* What fits and rank answers. */
 struct claims_fits_and_rank_answer {
@@ -206,12 +214,19 @@ struct claims_write_codes_answer {
     uint64_t length;  /* how many bytes were written: one for each claim */
 };
 
+/* What the count of a group of a tally answers. */
+struct claims_tally_count_answer {
+    uint32_t refusal; /* 0, or the number of the reason why the call is turned away; the other field is 0 then */
+    uint32_t count;   /* how many of the rows that are in count in the group */
+};
+
 /* The version of the library. Where it is not CLAIMS_VERSION, this header describes another one. In libtill.a. */
 uint32_t claims_version(void);
 
 /*
- * Each section that follows is one call, except that the second terms have one section for both their calls. It says what the call does
- * and what its arguments are; then comes its form as a type, which ends in _call, and then a line for each sort of file. The line
+ * Each section that follows is one call, except that the second terms have one section for both their calls, and the tally has one for its
+ * four. It says what the call does and what its arguments are; then comes its form as a type, which ends in _call, and then a line for each
+ * sort of file. The line
  * `claims_settle_call claims_settle_old;` declares the function claims_settle_old with the arguments and the answer of the type
  * claims_settle_call.
  */
@@ -498,6 +513,86 @@ claims_accept_call claims_accept;
 claims_accept_call claims_accept_stored;
 claims_accept_call claims_accept_old;
 claims_accept_call claims_accept_old_stored;
+
+/* ---- The tally during the day ---- */
+
+/*
+ * The counts for a till's screen, while claims come in and are withdrawn. A tally holds which rows of a file are in, and of each group how
+ * many of these rows count in it. It is memory of the program's own, which is lent to each of the four calls:
+ *
+ *     begin       from a file and a day. No row is in at first. The file is not needed afterwards
+ *     put in      a row comes in, where with it no group would count more rows than its limit
+ *     take out    a row that is in goes out
+ *     count       how many of the rows that are in count in a group. It changes nothing
+ *
+ * After any number of these calls, a group's count is the number of rows that were put in, were not taken out since, and count in the
+ * group. The rows that are in always fit both sides: no count is above the group's limit. The limits are those of the day, and for a stored
+ * file the lowered ones.
+ *
+ * To draw its screen a till asks for the count of each group and shows the group's limit beside it, which stands in the tally: that of card
+ * group g is limits[g], and that of shop group h is limits[cards + h].
+ *
+ * A row that is not in is refused with 20 exactly where claims_spare_places answers 0 places for it and the tally's selection. This
+ * selection may be given, with length CLAIMS_LONGEST_SELECTION, to every call that takes one, for the same file and day: the slip of it has
+ * the rows that are in.
+ *
+ * A tally decides by the order in which rows come in, and settle by all claims of the file at once; neither looks at the other, so that the
+ * rows that are in and the rows that settle keeps may differ.
+ *
+ * The program may read a tally and copy it, and each copy goes on by itself. It must not change anything in it. A tally that was not begun, or was
+ * changed otherwise than by these calls, may answer anything, but every call on it ends, and reads and writes nothing outside it.
+ */
+/* In a tally: no node, but what is above the groups at the top. A row with it as its card node counts in no card group. */
+#define CLAIMS_TALLY_TOP 512u
+
+struct claims_tally {
+    /*
+     * Card group g is node g, and shop group h is node cards + h. What lies past the last node or past the last row is 0. The first four
+     * lists and the three numbers stay as they were begun.
+     */
+    uint16_t parents[2 * CLAIMS_MOST_GROUPS];    /* of each node: the node above it, and CLAIMS_TALLY_TOP at the top */
+    uint16_t limits[2 * CLAIMS_MOST_GROUPS];     /* of each node: its limit on the day, lowered */
+    uint16_t card_nodes[CLAIMS_MOST_CLAIMS];     /* of each row: the node where it begins to count on the card side, or the top */
+    uint16_t shop_nodes[CLAIMS_MOST_CLAIMS];     /* of each row: the node where it begins to count on the shop side */
+    uint64_t cards, shops, rows;                 /* how many card groups, shop groups and rows there are */
+    uint16_t counts[2 * CLAIMS_MOST_GROUPS];     /* of each node: how many of the rows that are in count in it */
+    uint8_t selection[CLAIMS_LONGEST_SELECTION]; /* of each row: 1 where it is in, else 0 */
+};
+
+/*
+ * Begins a tally, whatever the memory held before. The answer is 0, and no row is in; or it is the number of the reason why not, and the
+ * tally has no rows and no groups: every byte is 0, and the other calls on it answer 9. No length is needed, so 8 is not told.
+ *
+ * file, file_length   the claim file
+ * day                 0 to 6
+ * tally               afterwards begun
+ */
+typedef uint32_t claims_tally_begin_call(
+    const uint8_t *file, size_t file_length,
+    uint32_t day,
+    struct claims_tally *tally);
+claims_tally_begin_call claims_tally_begin;
+claims_tally_begin_call claims_tally_begin_stored;
+claims_tally_begin_call claims_tally_begin_old;
+claims_tally_begin_call claims_tally_begin_old_stored;
+
+/*
+ * Puts a row in, counted from 0. The answer is 0, and the row is in; or it is a number, and nothing is changed: 9 where there is no such
+ * row, else 18 where the row is in, else 20 where with the row a group would count more rows than its limit.
+ */
+uint32_t claims_tally_put_in(struct claims_tally *tally, uint32_t row);
+
+/*
+ * Takes a row out, counted from 0. The answer is 0, and the row is not in; or it is a number, and nothing is changed: 9 where there is no
+ * such row, else 19 where the row is not in.
+ */
+uint32_t claims_tally_take_out(struct claims_tally *tally, uint32_t row);
+
+/*
+ * How many of the rows that are in count in a group of a side, CLAIMS_CARD or CLAIMS_SHOP; or 9 where there is no such side or group.
+ * Nothing is changed.
+ */
+struct claims_tally_count_answer claims_tally_count(struct claims_tally *tally, uint32_t side, uint32_t group);
 
 #ifdef __cplusplus
 }

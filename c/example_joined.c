@@ -25,21 +25,6 @@ static uint8_t choice[CLAIMS_LONGEST_CHOICE];
 static uint32_t sheet[CLAIMS_LONGEST_SHEET];
 static uint32_t scratch[CLAIMS_LONGEST_SCRATCH];
 
-/* Reads the named file to a place among the files, and says whether it could be read. */
-static bool read_file(const char *name, uint8_t *place, uint32_t *length) {
-    FILE *in = fopen(name, "rb");
-    bool read = in != NULL;
-    if (read) {
-        *length = (uint32_t)fread(place, 1, LONGEST, in);
-        read = !ferror(in);
-    }
-    if (!read)
-        perror(name);
-    if (in != NULL)
-        fclose(in);
-    return read;
-}
-
 /* The count that stands at a place, low byte first. */
 static size_t count_at(const uint8_t *place) { return place[0] + 256u * place[1]; }
 
@@ -62,7 +47,7 @@ static void print_counter(unsigned counter, size_t claims, const uint8_t *kept) 
 int main(int count, char **words) {
     /* The words after the program's own name are the oven limit, the day, and the names of the files. */
     uint32_t oven = 0, day = 0;
-    if (count < 3 || !day_named(words[1], &oven) || oven > UINT16_MAX || !day_named(words[2], &day)) {
+    if (count < 3 || !number_named(words[1], &oven) || oven > UINT16_MAX || !number_named(words[2], &day)) {
         fprintf(stderr, "the oven limit has to be one whole number, 0 to 65535, and the day one, 0 to 6: %s OVEN DAY FILE ...\n", words[0]);
         return 3;
     }
@@ -70,7 +55,7 @@ int main(int count, char **words) {
     unsigned counters = 0;
     size_t length = 0;
     for (; counters < MOST && 3 + counters < (unsigned)count; counters++) {
-        if (!read_file(words[3 + counters], files + length, &lengths[counters]))
+        if (!read_file(words[3 + counters], files + length, LONGEST, &lengths[counters]))
             return 2;
         length += lengths[counters];
     }

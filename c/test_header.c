@@ -1,6 +1,23 @@
-/* Tests of claims.h itself: the version, and that the needed lengths are those that its macros give, by the calls for each sort of file. */
+/*
+ * Tests of claims.h itself: the version, the layout of a tally, and that the needed lengths are those that its macros give, by the calls
+ * for each sort of file.
+ */
 #include <string.h>
 #include "sorts.h"
+
+/* Where the library has the fields of a tally, in bytes from its front. */
+_Static_assert(offsetof(struct claims_tally, parents) == 0, "parents");
+_Static_assert(offsetof(struct claims_tally, limits) == 1024, "limits");
+_Static_assert(offsetof(struct claims_tally, card_nodes) == 2048, "card nodes");
+_Static_assert(offsetof(struct claims_tally, shop_nodes) == 3072, "shop nodes");
+_Static_assert(offsetof(struct claims_tally, cards) == 4096, "cards");
+_Static_assert(offsetof(struct claims_tally, shops) == 4104, "shops");
+_Static_assert(offsetof(struct claims_tally, rows) == 4112, "rows");
+_Static_assert(offsetof(struct claims_tally, counts) == 4120, "counts");
+_Static_assert(offsetof(struct claims_tally, selection) == 5144, "selection");
+_Static_assert(sizeof(struct claims_tally) == 5656, "the tally");
+_Static_assert(CLAIMS_TALLY_TOP == 2 * CLAIMS_MOST_GROUPS, "no node is the top");
+_Static_assert(sizeof(struct claims_tally_count_answer) == 8, "what a count answers");
 
 /* The sort whose turn it is. */
 static const struct sort *by;
@@ -133,6 +150,25 @@ static void days(void) {
     }
 }
 
+/* The library writes each field of a tally where the header has it: the fields of one row, which is in and names the last of its groups. */
+static void tally_fields(void) {
+    static struct claims_tally tally;
+    struct day d = flat_day(2, 7, 3, 9);
+    d.parent[CARD][1] = 0;
+    d.parent[SHOP][2] = 1;
+    add_row(&d, 1, 2, 0);
+    write_day(&d, WEEK, &file);
+    expect(claims_tally_begin(file.bytes, file.length, 0, &tally) == 0 && claims_tally_put_in(&tally, 0) == 0, "a tally of one row");
+    expect(tally.cards == 2 && tally.shops == 3 && tally.rows == 1, "the tally's three numbers");
+    expect(tally.parents[0] == 512 && tally.parents[1] == 0 && tally.parents[4] == 3 && tally.limits[1] == 7 && tally.limits[4] == 9,
+           "the tally's parents and limits");
+    expect(tally.card_nodes[0] == 1 && tally.shop_nodes[0] == 4, "the nodes of the tally's row");
+    expect(tally.counts[0] == 1 && tally.counts[2] == 0 && tally.counts[3] == 1 && tally.selection[0] == 1, "the tally's row is in");
+    expect(claims_tally_count(&tally, CLAIMS_SHOP, 1).count == 1 && claims_tally_count(&tally, CLAIMS_SHOP, 3).refusal == CLAIMS_VALUE,
+           "the tally's counts");
+    expect(claims_tally_take_out(&tally, 0) == 0 && tally.counts[3] == 0 && tally.selection[0] == 0, "the tally's row is out");
+}
+
 int main(void) {
     expect(claims_version() == CLAIMS_VERSION, "the library's version is the header's");
 
@@ -150,6 +186,8 @@ int main(void) {
     expect(CLAIMS_LONGEST_SLIP == CLAIMS_SLIP_LENGTH(CLAIMS_MOST_CLAIMS), "the longest slip");
     expect(CLAIMS_LONGEST_CANONICAL == CLAIMS_CANONICAL_LENGTH(2 * CLAIMS_MOST_GROUPS, CLAIMS_MOST_CLAIMS), "the longest canonical form");
     expect(CLAIMS_LONGEST_CODES == CLAIMS_CODES_LENGTH(CLAIMS_MOST_CLAIMS), "the longest codes");
+    expect(CLAIMS_INSIDE == 18 && CLAIMS_OUTSIDE == 19 && CLAIMS_FULL == 20, "the numbers of the tally");
+    tally_fields();
 
     part_done("the header alone");
 

@@ -218,9 +218,10 @@ static void ranks(void) {
     part_done("ranks");
 }
 
-/* The numbers that the seven calls of a sort tell of a file whose claim has a kind; where they refuse it, memory is left as it was. */
+/* The numbers that the eight calls of a sort tell of a file whose claim has a kind; where they refuse it, memory but the tally is left as it was. */
 static void first_terms(const struct sort *sort, unsigned kind) {
     static uint8_t row[1], out[MOST_FILE];
+    static struct claims_tally tally;
     struct day d = flat_day(1, 1, 1, 1);
     add_row(&d, 0, 0, kind);
     write_among(&d, form_of(sort, 0), &file);
@@ -236,6 +237,7 @@ static void first_terms(const struct sort *sort, unsigned kind) {
     expect(sort->settle(file.bytes, file.length, 0, bytes_in(&choice), 1, cells_in(&sheet), 3, cells_in(&scratch), 15).refusal == number,
            "settling kind %u", kind);
     expect(sort->accept(file.bytes, file.length, bytes_in(&choice), 1, cells_in(&sheet), 3, 0) == number, "accepting kind %u", kind);
+    expect(sort->tally_begin(file.bytes, file.length, 0, &tally) == number, "a tally of kind %u", kind);
     expect(number == 0 || all_left_alone(0, 0, 0), "memory beside kind %u", kind);
 }
 

@@ -59,6 +59,8 @@ static void answered_well(const char *what, const struct sort *by, const struct 
            "%s, %s: the canonical form", by->name, what);
     expect(t->codes.refusal == 0 && t->codes.length == d->rows, "%s, %s: the codes", by->name, what);
     expect(t->accepted == 0, "%s, %s: accept", by->name, what);
+    expect(t->begun == 0 && t->tally.cards == d->groups[CARD] && t->tally.shops == d->groups[SHOP] && t->tally.rows == d->rows,
+           "%s, %s: the tally", by->name, what);
 }
 
 /* In memory one cell shorter 8 is told, by each call that needs any. */

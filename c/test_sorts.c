@@ -41,6 +41,7 @@ static void same_told(const char *what, const struct day *low, const struct told
     expect(memcmp(l->codes, m->codes, sizeof l->codes) == 0, "%s: the codes", what);
     expect(memcmp(l->codes_scratch, m->codes_scratch, sizeof l->codes_scratch) == 0, "%s: the codes' scratch", what);
     expect(a->accepted == 0 && b->accepted == 0, "%s: accept", what);
+    expect(a->begun == 0 && b->begun == 0 && memcmp(&a->tally, &b->tally, sizeof a->tally) == 0, "%s: the tally", what);
 }
 
 /* All calls of the sort that has this layout and is new or stored, on a week. */
@@ -341,7 +342,7 @@ static void broken_files(const struct sort *by, unsigned files) {
 static void day_over(const struct sort *by, const struct file *f, unsigned rows, const char *what) {
     static struct told over, good;
     ask(by, f, no_weekday(), &longest, rows > 0 ? below(rows + 1) : 0, &over);
-    expect(calls_gave(&over, CLAIMS_DAY), "%s, %s: not refused with 12", by->name, what);
+    expect(calls_gave(&over, CLAIMS_DAY) && begin_gave(&over, CLAIMS_DAY), "%s, %s: not refused with 12", by->name, what);
     ask(by, f, WEEKDAYS - 1, &longest, 0, &good);
     expect(good.settled.refusal == 0 && good.codes.refusal == 0 && good.canonical.refusal == 0, "%s, %s: day 6", by->name, what);
     expect(over.canonical.refusal == 0 && over.canonical.length == good.canonical.length &&
@@ -349,7 +350,10 @@ static void day_over(const struct sort *by, const struct file *f, unsigned rows,
            "%s, %s: the form", by->name, what);
 }
 
-/* A day over 6, with a selection that is good, one with a byte over 1, and with nothing lent, where 8 is told unless nothing is needed. */
+/*
+ * A day over 6, with a selection that is good, one with a byte over 1, and with nothing lent, where 8 is told unless nothing is needed. The
+ * beginning of a tally needs no length.
+ */
 static void days_over(const struct sort *by, unsigned files) {
     static struct file f;
     static struct told t;
@@ -362,7 +366,8 @@ static void days_over(const struct sort *by, unsigned files) {
         selection[below(d.rows)] = 2;
         day_over(by, &f, d.rows, "a byte over 1");
         ask(by, &f, no_weekday(), &nothing, MOST_ROWS, &t);
-        expect(calls_gave(&t, CLAIMS_SHORT) && form_gave(&t, CLAIMS_SHORT), "%s: day over 6, nothing lent", by->name);
+        expect(calls_gave(&t, CLAIMS_SHORT) && form_gave(&t, CLAIMS_SHORT) && begin_gave(&t, CLAIMS_DAY), "%s: day over 6, nothing lent",
+               by->name);
     }
     printf("%s, ", by->name);
     part_done("days over 6");

@@ -1,6 +1,6 @@
 /*
- * What the examples and accept.c share: what each refusal means, the day that a word names, and for two examples how the day and the file
- * are read. c/example.c says how to read C.
+ * What the examples and accept.c share: what each refusal means, the number that a word names, and for the examples how the day and a file are
+ * read. c/example.c says how to read C.
  */
 #ifndef WORDS_H
 #define WORDS_H
@@ -19,7 +19,7 @@ static const char *const meaning[] = {
     [CLAIMS_KIND] = "a kind is neither 0 nor 1",
     [CLAIMS_TRAILING] = "bytes follow the last claim",
     [CLAIMS_SHORT] = "a lent buffer or selection is shorter than needed",
-    [CLAIMS_VALUE] = "a selection byte is over 1, a side is over 1, or a row is not below N",
+    [CLAIMS_VALUE] = "a selection byte is over 1, a side is over 1, a row is not below N, or the side lacks the group",
     [CLAIMS_SELECTED] = "the row is already in the selection",
     [CLAIMS_LIMIT_ABOVE] = "a group's limit is above its parent's on any of the seven days",
     [CLAIMS_DAY] = "the day is over 6",
@@ -28,13 +28,16 @@ static const char *const meaning[] = {
     [CLAIMS_UNEQUAL] = "the totals differ",
     [CLAIMS_FILES] = "no file, more than eight, or lengths that do not add up to the buffer's",
     [CLAIMS_LARGE] = "the joined file would pass 256 groups on a side or 512 claims",
+    [CLAIMS_INSIDE] = "putting in a row that is in",
+    [CLAIMS_OUTSIDE] = "taking out a row that is not in",
+    [CLAIMS_FULL] = "putting in a row that would pass a limit",
 };
 
 /*
- * Reads a day from a word: digits alone, and no more than a number of 32 bits holds. Says whether the word is such a number; whether the
- * week has that day is judged by the library.
+ * Reads a number from a word: digits alone, and no more than a number of 32 bits holds. Says whether the word is such a number; whether
+ * there is such a day, or such a row, is judged by the library.
  */
-static inline bool day_named(const char *word, uint32_t *day) {
+static inline bool number_named(const char *word, uint32_t *named) {
     uint64_t number = 0;
     for (size_t at = 0; word[at] != '\0'; at++) {
         if (word[at] < '0' || word[at] > '9')
@@ -43,8 +46,23 @@ static inline bool day_named(const char *word, uint32_t *day) {
         if (number > UINT32_MAX)
             return false;
     }
-    *day = (uint32_t)number;
+    *named = (uint32_t)number;
     return word[0] != '\0';
+}
+
+/* Reads a named file to a place, at most as many bytes as there is room for. Says whether it could be read; else it prints why not. */
+static inline bool read_file(const char *name, uint8_t *place, size_t room, uint32_t *length) {
+    FILE *in = fopen(name, "rb");
+    bool read = in != NULL;
+    if (read) {
+        *length = (uint32_t)fread(place, 1, room, in);
+        read = !ferror(in);
+    }
+    if (!read)
+        perror(name);
+    if (in != NULL)
+        fclose(in);
+    return read;
 }
 
 /*
@@ -54,7 +72,7 @@ static inline bool day_named(const char *word, uint32_t *day) {
  */
 static inline int read_given(int count, char **words, uint32_t *day, uint8_t *file, size_t room, size_t *length) {
     *day = 0;
-    if (count > 2 || (count == 2 && !day_named(words[1], day))) {
+    if (count > 2 || (count == 2 && !number_named(words[1], day))) {
         fprintf(stderr, "the day has to be one whole number, 0 to 6: %s [DAY] < FILE\n", words[0]);
         return 3;
     }

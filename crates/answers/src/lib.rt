@@ -56,3 +56,10 @@ pub struct WriteAnswer {
     pub refusal: u32,
     pub length: u64,
 }
+
+// How many of the rows that are in count in a group.
+#[repr(C)]
+pub struct TallyCountAnswer {
+    pub refusal: u32,
+    pub count: u32,
+}

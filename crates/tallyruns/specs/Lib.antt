@@ -1,0 +1,3 @@
+-- Runs of calls on a tally, and a worked run.
+pub mod Runs
+pub mod Examples

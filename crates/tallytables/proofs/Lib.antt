@@ -1,0 +1,3 @@
+-- Laws of the cells of an accepted file and of a tally's beginning.
+pub mod FillLaws
+pub mod BeginLaws

@@ -1,0 +1,2 @@
+-- What beginning a tally promises.
+pub mod Begin
