@@ -6,7 +6,7 @@ ghost use Prim.Native.Nat.{_+_, _≤_, _<_};
 ghost use lib.ListN.{length};
 ghost use Rattle.theory.specs.Bounds.{cellBound};
 ghost use Rattle.scratch.specs.Memory.{memory};
-ghost use Rattle.scratch.specs.Map.{half, labelOf, predOf, queueOf, spareOf, firstOf, afterChildOf, afterCardOf, afterShopOf, parentOf, cardOf, shopOf, weightOf, priceOf, rowPrice, keptOf};
+ghost use Rattle.scratch.specs.Map.{half, arcIn, labelOf, predOf, queueOf, spareOf, firstOf, afterChildOf, afterCardOf, afterShopOf, parentOf, cardOf, shopOf, weightOf, priceOf, rowPrice, keptOf};
 ghost use Rattle.scratch.specs.Map.{labels, queues, spares, firsts, parents, cardNodes, shopNodes, weights};
 ghost use Rattle.scratch.specs.Map.{Room, Put, PutPrice, PutKept};
 use scratch::Shape;
@@ -65,28 +65,34 @@ pub fn set_label(
     set_cell(sh, LABELS, v, x, wide, scratch, scratch64);
 }
 
-// The arc by which node v was reached, plus 1; 0 where it was not reached.
-pub fn pred(sh: Shape, v: usize, wide: bool, scratch: &[u32], scratch64: &[u64]) -> usize
-    requires { ⌜ Room sh (memory wide (now scratch) (now scratch64)) ⌝ }
-    requires { ⌜ v < sh .groups + 2 ⌝ }
-    ensures { λ r. ⌜ r ≡ predOf sh (memory wide (now (scratch .entry)) (now (scratch64 .entry))) v ⌝ }
+// What label x says in the class with label b: the arc by which its node was reached, plus 1; 0 where x is b or a label of another class.
+pub fn arc_in(b: usize, x: usize) -> usize
+    ensures { λ r. ⌜ r ≡ arcIn b x ⌝ }
 {
-    let x = label(sh, v, wide, scratch, scratch64);
-    let fresh = sh.fresh;
-    if x < fresh {
+    if x < b {
         return 0;
     }
-    let by = x - fresh;
+    let by = x - b;
     if by < SPAN {
         return by;
     }
     0
 }
 
+// The arc by which node v was reached, plus 1; 0 where it was not reached.
+pub fn pred(sh: Shape, v: usize, wide: bool, scratch: &[u32], scratch64: &[u64]) -> usize
+    requires { ⌜ Room sh (memory wide (now scratch) (now scratch64)) ⌝ }
+    requires { ⌜ v < sh .groups + 2 ⌝ }
+    ensures { λ r. ⌜ r ≡ predOf sh (memory wide (now (scratch .entry)) (now (scratch64 .entry))) v ⌝ }
+{
+    let fresh = sh.fresh;
+    arc_in(fresh, label(sh, v, wide, scratch, scratch64))
+}
+
 // The node that was reached in place i.
 pub fn queue(sh: Shape, i: usize, wide: bool, scratch: &[u32], scratch64: &[u64]) -> usize
     requires { ⌜ Room sh (memory wide (now scratch) (now scratch64)) ⌝ }
-    requires { ⌜ i < sh .groups + 2 ⌝ }
+    requires { ⌜ i < sh .groups + 3 ⌝ }
     ensures { λ r. ⌜ r ≡ queueOf sh (memory wide (now (scratch .entry)) (now (scratch64 .entry))) i ⌝ }
 {
     cell(sh, QUEUES, i, wide, scratch, scratch64)

@@ -5,6 +5,7 @@
 --   unlisted-open unlisted-closed unlisted-step      the arc down to an item that is not listed, and no step by one
 --   step-head              a step of an arc from u leads to one node
 --   reach-later            places that are early are early later on
+--   reach-queue reach-more    places past the last do not matter; one node more is reached
 --   grew-none grew-then    a search that goes on
 --   took-grew passed-grew  by one arc
 --   reach-first            one node is reached
@@ -195,7 +196,7 @@ module _ (back : Bool) (r : Residual) (S spare : ℕ → ℕ) where
   }
 
   -- past its n places the queue does not matter
-  reach-queue :
+  pub reach-queue :
       {pred queue queue′ : ℕ → ℕ} {h n : ℕ} → Reach back r S spare pred queue h n → ((i : ℕ) → i < n → queue′ i ≡ queue i) →
       Reach back r S spare pred queue′ h n
   reach-queue {pred} R q = record {
@@ -215,6 +216,65 @@ module _ (back : Bool) (r : Residual) (S spare : ℕ → ℕ) where
           arc = rw (q i m, q (C .j) (omega (arith, C .before))) (C .arc);
         };
   }
+
+  -- one node more, by a step from place h
+  module _
+      {pred pred′ queue queue′ : ℕ → ℕ} {h k n u v e : ℕ} (R : Reach back r S spare pred queue k n) (l : h < n) (early : h < k)
+      (at : queue h ≡ u) (node : v < r .net .groups + 2) (arc : Step back r S spare e u v) (dark : pred v ≡ 0)
+      (more : Puts pred pred′ v (e + 1)) (puts : Puts queue queue′ n v)
+    where
+      old : (i : ℕ) → i < n → queue′ i ≡ queue i
+      old i m = puts .else i (λ k. omega arith)
+
+      kept : (x : ℕ) → 0 < pred x → pred′ x ≡ pred x
+      kept x p = more .else x (λ k. omega (arith, ap pred k, dark))
+
+      came-old : (i : ℕ) → i < n → 0 < i → Come back r S spare pred′ queue′ k i
+      came-old i m z =
+          let C = R .come i m z in
+          record {
+            j = C .j;
+            before = C .before;
+            early = C .early;
+            by = C .by;
+            is = ap pred′ (old i m) ∙ kept (queue i) (R .seen i m) ∙ C .is;
+            arc = rw (old i m, old (C .j) (omega (arith, C .before))) (C .arc);
+          }
+
+      came-new : Come back r S spare pred′ queue′ k n
+      came-new = record {
+        j = h;
+        before = l;
+        early = early;
+        by = e;
+        is = ap pred′ (puts .here) ∙ more .here;
+        arc = rw (puts .here, old h l, at) arc;
+      }
+
+      pub reach-more : Reach back r S spare pred′ queue′ k (n + 1)
+      reach-more = record {
+        some = omega arith;
+        size = omega (arith, R .size, reached-more pred pred′ (r .net .groups + 2) v (e + 1) node dark (omega arith) more);
+        node = λ i m.
+            elim (ℕ-discrete i n) [
+              | yes k ↦ rw (k, puts .here) node
+              | no k ↦ rw (old i (omega arith)) (R .node i (omega arith))
+            ];
+        seen = λ i m.
+            elim (ℕ-discrete i n) [
+              | yes k ↦ rw (k, puts .here) (omega (arith, more .here))
+              | no k ↦
+                  let w = R .seen i (omega arith) in
+                  rw (old i (omega arith)) (omega (arith, w, kept (queue i) w))
+            ];
+        spot = λ x m p. ⊎-elim
+            (λ w. (n, omega arith, puts .here ∙ sym (w .0)))
+            (λ w.
+            let z = R .spot x m (rw (w .1) at p) in
+            (z .0, omega (arith, z .1), old (z .0) (z .1) ∙ z .2))
+            (puts-at more x);
+        come = λ i m z. elim (ℕ-discrete i n) [ yes k ↦ rw k came-new | no k ↦ came-old i (omega arith) z ];
+      }
 
   module _ (b : ℕ) where
     pub grew-none :
@@ -237,78 +297,16 @@ module _ (back : Bool) (r : Residual) (S spare : ℕ → ℕ) where
         {label queue label′ queue′ : ℕ → ℕ} {h n n′ u e : ℕ} (R : Reach back r S spare (predIn b label) queue (h + 1) n)
         (l : h < n) (at : queue h ≡ u) (T : Took back r S spare b label queue n label′ queue′ n′ u e)
       where
-        old : (i : ℕ) → i < n → queue′ i ≡ queue i
-        old i m = T .queue-puts .else i (λ k. omega arith)
-
-        more : Puts (predIn b label) (predIn b label′) (T .v) (e + 1)
-        more = pred-puts b label label′ (T .v) e (T .small) (T .label-puts)
-
-        dark : predIn b label (T .v) ≡ 0
-        dark = ap (arcIn b) (T .new) ∙ arc-in-fresh b
-
-        kept : (x : ℕ) → 0 < predIn b label x → predIn b label′ x ≡ predIn b label x
-        kept x p = more .else x (λ k. omega (arith, ap (predIn b label) k, dark))
-
-        last : queue′ n ≡ T .v
-        last = T .queue-puts .here
-
-        came-old : (i : ℕ) → i < n → 0 < i → Come back r S spare (predIn b label′) queue′ (h + 1) i
-        came-old i m z =
-            let C = R .come i m z in
-            record {
-              j = C .j;
-              before = C .before;
-              early = C .early;
-              by = C .by;
-              is = ap (predIn b label′) (old i m) ∙ kept (queue i) (R .seen i m) ∙ C .is;
-              arc = rw (old i m, old (C .j) (omega (arith, C .before))) (C .arc);
-            }
-
-        came-new : Come back r S spare (predIn b label′) queue′ (h + 1) n
-        came-new = record {
-          j = h;
-          before = l;
-          early = omega arith;
-          by = e;
-          is = ap (predIn b label′) last ∙ more .here;
-          arc = rw (last, old h l, at) (T .arc);
-        }
-
         took-reach : Reach back r S spare (predIn b label′) queue′ (h + 1) (n + 1)
-        took-reach = record {
-          some = omega arith;
-          size =
-              omega (
-                arith,
-                R .size,
-                reached-more (predIn b label) (predIn b label′) (r .net .groups + 2) (T .v) (e + 1) (T .node) dark (omega arith) more,
-              );
-          node = λ i m.
-              elim (ℕ-discrete i n) [
-                | yes k ↦ rw (k, last) (T .node)
-                | no k ↦ rw (old i (omega arith)) (R .node i (omega arith))
-              ];
-          seen = λ i m.
-              elim (ℕ-discrete i n) [
-                | yes k ↦ rw (k, last) (omega (arith, more .here))
-                | no k ↦
-                    let w = R .seen i (omega arith) in
-                    rw (old i (omega arith)) (omega (arith, w, kept (queue i) w))
-              ];
-          spot = λ x m p. ⊎-elim
-              (λ w. (n, omega arith, last ∙ sym (w .0)))
-              (λ w.
-              let z = R .spot x m (rw (w .1) at p) in
-              (z .0, omega (arith, z .1), old (z .0) (z .1) ∙ z .2))
-              (puts-at more x);
-          come = λ i m z. elim (ℕ-discrete i n) [ yes k ↦ rw k came-new | no k ↦ came-old i (omega arith) z ];
-        }
+        took-reach =
+            reach-more R l (omega arith) at (T .node) (T .arc) (ap (arcIn b) (T .new) ∙ arc-in-fresh b)
+            (pred-puts b label label′ (T .v) e (T .small) (T .label-puts)) (T .queue-puts)
 
         pub took-grew : Grew back r S spare b label queue n label′ queue′ (h + 1) n′
         took-grew =
             rw (T .more) (record {
               grow = omega arith;
-              keep = old;
+              keep = λ i m. T .queue-puts .else i (λ k. omega arith);
               spread = spread-puts b label label′ (T .v) e (T .new) (T .small) (T .label-puts);
               reach = took-reach;
             })

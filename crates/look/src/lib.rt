@@ -84,7 +84,7 @@ fn price_above(sh: Shape, u: usize, v: usize, wide: bool, sheet: &[u32], sheet64
 }
 
 // Whether there is a step from group u up to its parent v.
-fn leads_up(
+pub fn leads_up(
     sh: Shape,
     back: bool,
     u: usize,

@@ -10,12 +10,7 @@ use native.Mathlib.Omega.{arith}
 use Rattle.scratch.specs.declared.Shape.{Shape}
 use Rattle.scratch.specs.Map.{labels, span, labelOf, arcIn, predOf}
 use Rattle.scratch.proofs.MapLaws.{table-out, arc-in-far}
-
-arc-in-low : (b x : ℕ) → x ≤ b → arcIn b x ≡ 0
-unfolding arcIn
-arc-in-low b x l =
-    let z : x - b ≡ 0 = omega arith in
-    simp z
+use Rattle.look.proofs.LabelLaws.{arc-in-low}
 
 pub arc-in-same : (b x : ℕ) → x ≡ b → arcIn b x ≡ 0
 arc-in-same b x e = arc-in-low b x (omega arith)

@@ -3,3 +3,4 @@ pub mod PlaceLaws
 pub mod LabelLaws
 pub mod PathLaws
 pub mod MoveLaws
+pub mod JoinLaws

@@ -44,6 +44,7 @@ use Rattle.search.specs.Search.{ReachBy, SearchedBy, Searched}
 use Rattle.scratch.proofs.MapLaws.{keeps-more, residual-same}
 use Rattle.residual.proofs.LinkLaws.{linked-still}
 use Rattle.look.proofs.ReachLaws.{unlisted-open, unlisted-closed}
+use Rattle.paths.proofs.FlipLaws.{path-reach}
 use Rattle.prices.specs.State.{Working, OnlyMoves, AllFresh, limitOf, State, Filled}
 use Rattle.moves.specs.Path.{Found, TurnedBack, Tried}
 use Rattle.prices.proofs.StateLaws.{net-keeps, weight-keeps, state-change, filled-change}
@@ -224,16 +225,8 @@ module _
     searched-found I node found =
         let J : State sh ch sheet t′ = state-unread (unread-search (X .only)) I in
         record {
-          path = record {
-            ready = state-ready J;
-            n = n;
-            reach = searched-reach X;
-            begin = X .begin;
-            node = node;
-            found = found;
-            low = J .low;
-          };
-          count = refl;
+          path = path-reach (state-ready J) (searched-reach X) (X .begin) node found (J .low);
+          reach = searched-reach X;
         }
 
     pub search-blocked : predOf sh t′ target ≡ 0 → Tried sh ch sheet t ch t′ start target n

@@ -1,12 +1,11 @@
 -- Laws of the labels that a search gave, and of a path that it found.
 --   queued-reach           what giving the reached nodes a label asks
 --   renamed-reach          and what it does to every node
---   found-reach            the nodes that are reached where a path was found
 --   found-queued           what making them fresh again asks, after the path was turned
 --   turned-back            what was done then
 use mathlib.Core.Path.{_≡_, sym, ap, _∙_}
 use mathlib.Core.Logic.{inl, inr}
-use mathlib.Core.Bool.{Bool, false}
+use mathlib.Core.Bool.{Bool}
 use mathlib.Core.List.{List}
 use Prim.Native.Nat.{ℕ, _+_}
 use native.Mathlib.Decide.{decLt}
@@ -15,8 +14,7 @@ use Rattle.theory.specs.Residual.{Residual}
 use Rattle.theory.specs.Turn.{Flipped, Inside}
 use Rattle.scratch.specs.declared.Shape.{Shape}
 use Rattle.scratch.specs.Map.{Room, labelOf, predOf, queueOf, spareOf, labels, queues, spares}
-use Rattle.look.specs.Reach.{Reach}
-use Rattle.search.specs.Search.{ReachBy, ReachOf, Queued, Relabelled}
+use Rattle.search.specs.Search.{ReachBy, Queued, Relabelled}
 use Rattle.paths.specs.Flip.{OldFrom, Walked}
 use Rattle.scratch.proofs.MapLaws.{keeps-more, keeps-then, room-keeps}
 use Rattle.look.proofs.ReachLaws.{reached-most}
@@ -60,10 +58,6 @@ module _
 --------------------------------------------------------------------------------
 -- A path that is turned
 
-reach-count :
-    {r : Residual} {S f pred queue : ℕ → ℕ} {m n : ℕ} → m ≡ n → Reach false r S f pred queue m m → Reach false r S f pred queue n n
-reach-count e A = rw e at A
-
 flipped-spare :
     {r : Residual} {S f S′ f′ f″ : ℕ → ℕ} {u v : ℕ} → f″ ≡ f′ → Flipped r S f S′ f′ u v → Flipped r S f S′ f″ u v
 flipped-spare e F = rw e F
@@ -77,13 +71,10 @@ old-spare :
 old-spare e F = rw e F
 
 module _ {sh : Shape} {ch sheet t : List ℕ} {start target n : ℕ} (F : Found sh ch sheet t start target n) where
-  pub found-reach : ReachOf sh ch sheet t t n n
-  found-reach = reach-count (F .count) (F .path .reach)
-
   module _ {ch′ t′ : List ℕ} (W : Walked sh ch sheet t ch′ t′ start target) where
     pub found-queued : Queued sh t′ n
     found-queued =
-        queued-reach sh ch sheet t found-reach (W .only .rest queues (λ p. omega arith))
+        queued-reach sh ch sheet t (F .reach) (W .only .rest queues (λ p. omega arith))
         (room-keeps (W .only .long) (F .path .ready .buffers .room))
 
     pub turned-back :
@@ -97,5 +88,5 @@ module _ {sh : Shape} {ch sheet t : List ℕ} {start target n : ℕ} (F : Found 
           inside = inside-spare spare (W .inside);
           old = old-spare spare (W .old);
           labels =
-              renamed-reach sh ch sheet t found-reach (W .only .rest queues (λ p. omega arith)) (W .only .rest labels (λ p. omega arith)) L;
+              renamed-reach sh ch sheet t (F .reach) (W .only .rest queues (λ p. omega arith)) (W .only .rest labels (λ p. omega arith)) L;
         }

@@ -17,7 +17,7 @@ use Rattle.theory.specs.Turn.{Flipped, Inside}
 use Rattle.scratch.specs.declared.Shape.{Shape}
 use Rattle.scratch.specs.Map.{labelOf, predOf, spareOf, keptOf}
 use Rattle.scratch.specs.View.{residualOf}
-use Rattle.search.specs.Search.{Asked, Searched}
+use Rattle.search.specs.Search.{ReachOf, Asked, Searched}
 use Rattle.paths.specs.Flip.{OldFrom, Path}
 use Rattle.prices.specs.State.{OnlyMoves, State}
 
@@ -28,7 +28,7 @@ Renamed sh t t′ x =
 
 pub record Found (sh : Shape) (ch sheet t : List ℕ) (start target n : ℕ) : Type 0 where
   pub path : Path sh ch sheet t start target
-  pub count : path .n ≡ n
+  pub reach : ReachOf sh ch sheet t t n n
 
 pub record TurnedBack (sh : Shape) (ch sheet t ch′ t′ : List ℕ) (start target : ℕ) : Type 0 where
   pub only : OnlyMoves sh t t′

@@ -1,3 +1,4 @@
 // What changes the choice under prices that stay: rows are filled in where there is a place, and a path is searched and turned round.
 pub mod fill;
+pub mod join;
 pub mod path;

@@ -15,7 +15,7 @@ use mathlib.Core.Path.{_≡_, refl, sym, ap, subst, _∙_}
 use mathlib.Core.Logic.{_≢_}
 use mathlib.Core.Bool.{Bool, not, _||_, true≢false}
 use mathlib.Core.List.{List}
-use Prim.Native.Nat.{ℕ, _+_, _-_, _≤_, _<_}
+use Prim.Native.Nat.{ℕ, _+_, _*_, _-_, _≤_, _<_}
 use native.Mathlib.Nat.{le-refl}
 use native.Mathlib.Decide.{ℕ-discrete}
 use native.Mathlib.Omega.{arith}
@@ -184,7 +184,7 @@ module _ {sh : Shape} {ch sheet t : List ℕ} {i : ℕ} (A : AtRow sh ch sheet t
     }
 
     -- the label of a class leaves room for the arcs
-    class-low : (v : ℕ) → v < sh .groups + 2 → labelOf sh t v + span ≤ cellBound
+    class-low : (v : ℕ) → v < sh .groups + 2 → labelOf sh t v + 2 * span ≤ cellBound
     class-low v l =
         let k = C .named v l in
         omega (arith, k .1, k .2, C .few, A .row, A .state .room .few .rows)
@@ -213,7 +213,7 @@ module _ {sh : Shape} {ch sheet t : List ℕ} {i : ℕ} (A : AtRow sh ch sheet t
 
 -- back from another first free row and label
 pub placed-class :
-    (sh : Shape) (m x : ℕ) {ch sheet t ch′ t′ : List ℕ} {i next : ℕ} → sh .fresh + span ≤ cellBound →
+    (sh : Shape) (m x : ℕ) {ch sheet t ch′ t′ : List ℕ} {i next : ℕ} → sh .fresh + 2 * span ≤ cellBound →
     Placed (withClass sh m x) ch sheet t ch′ t′ i next → Placed sh ch sheet t ch′ t′ i next
 unfolding limitOf
 placed-class sh m x {sheet} {t′ = t′} low P = record {

@@ -2,15 +2,17 @@
 // choice stays as heavy and as large.
 //
 // The nodes are parted into classes, each with its own label, so that no cycle of open arcs goes through two classes. At first all are
-// in one. A search stays in one class; where it fails, the nodes that it reached become a class of their own. So a row whose two nodes
-// are of different classes stays out without a search. A row that goes in turns a cycle, which lies in one class, and the classes
-// stay as they are.
+// in one. A search goes from both ends and stays in one class; where it fails, the nodes of the end that it exhausted become a class of
+// their own. So a row whose two nodes are of different classes stays out without a search. A row that goes in turns a cycle, which lies in
+// one class, and the classes stay as they are.
 ghost use mathlib.Core.Path.{_≡_};
 ghost use Prim.Native.Nat.{_+_, _<_};
+ghost use Rattle.theory.specs.Bounds.{cellBound};
 ghost use Rattle.scratch.specs.Memory.{memory};
 ghost use Rattle.residual.specs.Items.{Raw, Links};
 ghost use Rattle.prices.specs.State.{withClass};
-ghost use Rattle.order.specs.Order.{Paid, Placing, Placed, Arranged, Parted, Staying, Swapping};
+ghost use Rattle.search.specs.Search.{Queued, QueuedIn, fromLast};
+ghost use Rattle.order.specs.Order.{Paid, Placing, Placed, Arranged, Parted, Staying, EndsNamed, Swapping};
 use entries::SPAN;
 use entries::card;
 use entries::kept;
@@ -19,11 +21,13 @@ use entries::row_price;
 use entries::set_kept;
 use entries::shop;
 use entries::weight;
-use moves::path::try_path;
-use paths::seal::sealed;
+use meet::search_both;
+use moves::join::turn_joined;
 use residual::lists::drop_row;
 use scratch::Shape;
+use scratch::pick::pick;
 use search::relabel;
+use search::relabel_last;
 
 // The shape for a search that turns the rows from `free` on and reaches the nodes with the label `fresh`.
 fn with_class(sh: Shape, free: usize, fresh: usize) -> Shape
@@ -74,8 +78,32 @@ fn stays(
     keeps | dear | parted(sh, i, wide, scratch, scratch64)
 }
 
-// Puts row i in, where a search from its shop node b to its card node a finds rows above it that make way; else the nodes that the
-// search reached become class `next`. No search is made where no arc leads to a. Answers how many classes there are then.
+// After a search that did not meet: the nodes of the end that has no arc left get the label x, and those of the other end are fresh again.
+fn name_ends(
+    sh: Shape,
+    n: usize,
+    m: usize,
+    out: bool,
+    x: usize,
+    wide: bool,
+    scratch: &mut [u32],
+    scratch64: &mut [u64],
+)
+    requires { let scratch₀ = memory wide (now scratch) (now scratch64) in
+        ⌜ Queued sh scratch₀ n × QueuedIn sh scratch₀ (fromLast sh scratch₀) m ⌝ }
+    requires { ⌜ x < cellBound ⌝ }
+    ensures { λ _.
+        let scratch₀ = memory wide (now (scratch .entry)) (now (scratch64 .entry)) in
+        let scratch′ = memory wide (now (scratch .exit)) (now (scratch64 .exit)) in
+        ⌜ EndsNamed sh scratch₀ scratch′ n m out x ⌝ }
+{
+    let fresh = sh.fresh;
+    relabel(sh, n, pick(out, x, fresh), wide, scratch, scratch64);
+    relabel_last(sh, m, pick(out, fresh, x), wide, scratch, scratch64);
+}
+
+// Puts row i in, where a search from its shop node b and from its card node a finds rows above it that make way; else the nodes of the end
+// that has no arc left become class `next`. Answers how many classes there are then.
 fn swap_in(
     sh: Shape,
     i: usize,
@@ -96,14 +124,29 @@ fn swap_in(
         let scratch′ = memory wide (now (scratch .exit)) (now (scratch64 .exit)) in
         ⌜ Placed sh (now (choice .entry)) sheet₀ scratch₀ (now (choice .exit)) scratch′ (i + 1) r ⌝ }
 {
-    if sealed(sh, a, choice, wide, sheet, sheet64, scratch, scratch64) {
-        return next;
-    }
-    let n = try_path(sh, b, a, choice, wide, sheet, sheet64, scratch, scratch64);
-    if n > 0 {
-        relabel(sh, n, SPAN * next, wide, scratch, scratch64);
+    let ends = search_both(sh, b, a, choice, wide, sheet, sheet64, scratch, scratch64);
+    let n = ends.n;
+    let m = ends.m;
+    let hit = ends.hit;
+    if hit == 0 {
+        let out = ends.out;
+        name_ends(sh, n, m, out, 2 * SPAN * next, wide, scratch, scratch64);
         return next + 1;
     }
+    turn_joined(
+        sh,
+        b,
+        a,
+        n,
+        m,
+        hit,
+        choice,
+        wide,
+        sheet,
+        sheet64,
+        scratch,
+        scratch64,
+    );
     set_kept(i, 1, choice);
     next
 }

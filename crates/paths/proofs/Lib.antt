@@ -1,4 +1,3 @@
 -- The laws that belong to no one function.
 pub mod TurnLaws
 pub mod FlipLaws
-pub mod SealLaws

@@ -7,7 +7,8 @@
 --   Moved r S spare S′ spare′ u v x    an open arc from u to v was turned, and u is x
 --   Turned sh ch sheet t ch′ t′ v x    what it promises: the arc came from x, and it was turned
 --   OldFrom r S spare S′ spare′ u      the arcs that are open now and lead from u were open before
---   Path sh ch sheet t start target    what a flip asks: a search from the start reached the target
+--   Path sh ch sheet t start target    what a flip asks: the preds lead from the target back to the start. Each node on the way has a
+--                          place, and the place falls from a node to the one that it came from
 --   Walked sh ch sheet t ch′ t′ start target   what it promises: the path was turned, between nodes that are reached, and no arc into
 --                          the start was
 use mathlib.Core.Path.{_≡_}
@@ -20,11 +21,11 @@ use Rattle.theory.specs.Sum.{same}
 use Rattle.theory.specs.Residual.{Residual, Arc}
 use Rattle.theory.specs.Level.{count}
 use Rattle.theory.specs.Turn.{Puts, Flipped, Others, Back, Inside}
+use Rattle.theory.specs.Walk.{Stands}
 use Rattle.scratch.specs.declared.Shape.{Shape}
-use Rattle.scratch.specs.Map.{maxSpare, predOf, queueOf, spareOf, cardOf, shopOf, keptOf, OnlySpare}
+use Rattle.scratch.specs.Map.{maxSpare, predOf, spareOf, cardOf, shopOf, keptOf, OnlySpare}
 use Rattle.scratch.specs.View.{netOf, residualOf}
 use Rattle.residual.specs.State.{Ready}
-use Rattle.search.specs.Search.{ReachOf}
 
 abbrev pub Low : Shape → List ℕ → Type 0
 Low sh t = (x : ℕ) → x < sh .groups → spareOf sh t x ≤ maxSpare + 1
@@ -69,11 +70,11 @@ OldFrom r S spare S′ spare′ u = (e v : ℕ) → Arc r S′ spare′ e u v 0 
 
 pub record Path (sh : Shape) (ch sheet t : List ℕ) (start target : ℕ) : Type 0 where
   pub ready : Ready sh ch sheet t
-  pub n : ℕ
-  pub reach : ReachOf sh ch sheet t t n n
-  pub begin : queueOf sh t 0 ≡ start
+  pub place : ℕ → ℕ
+  pub few : place target ≤ sh .groups + 2
+  pub stands : Stands (residualOf sh sheet t) (keptOf ch) (spareOf sh t) (predOf sh t) place start target
+  pub begin : 0 < predOf sh t start
   pub node : target < sh .groups + 2
-  pub found : 0 < predOf sh t target
   pub low : (x : ℕ) → x < sh .groups → spareOf sh t x + count (netOf sh t) (keptOf ch) x ≤ maxSpare
 
 pub record Walked (sh : Shape) (ch sheet t ch′ t′ : List ℕ) (start target : ℕ) : Type 0 where

@@ -1,3 +1,2 @@
 -- What the contracts say.
 pub mod Flip
-pub mod Seal

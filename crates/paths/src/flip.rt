@@ -92,7 +92,7 @@ fn turn(
     x
 }
 
-// Turns the path round by which the target was reached from the start.
+// Turns the path round by which the target was reached from the start. It has no more arcs than there are nodes.
 pub fn flip(
     sh: Shape,
     start: usize,
@@ -111,8 +111,12 @@ pub fn flip(
         let scratch′ = memory wide (now (scratch .exit)) (now (scratch64 .exit)) in
         ⌜ Walked sh (now (choice .entry)) sheet₀ scratch₀ (now (choice .exit)) scratch′ start target ⌝ }
 {
+    let g = sh.groups;
     let mut u = target;
-    while u != start {
+    for _ in 0..g + 2 {
+        if u == start {
+            return;
+        }
         u = turn(sh, u, choice, wide, sheet, sheet64, scratch, scratch64);
     }
 }

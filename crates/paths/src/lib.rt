@@ -1,3 +1,2 @@
-// Paths of open arcs: turned round, and a node to which none leads.
+// Paths of open arcs, turned round.
 pub mod flip;
-pub mod seal;

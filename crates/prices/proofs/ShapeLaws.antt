@@ -5,7 +5,7 @@
 --   state-class filled-class       the state, and a filling, under them
 use mathlib.Core.Logic.{inl, inr}
 use mathlib.Core.List.{List}
-use Prim.Native.Nat.{ℕ, _+_, _≤_}
+use Prim.Native.Nat.{ℕ, _+_, _*_, _≤_}
 use Rattle.theory.specs.Bounds.{cellBound}
 use Rattle.theory.specs.Residual.{Residual, freed}
 use Rattle.scratch.specs.declared.Shape.{Shape}
@@ -19,7 +19,7 @@ sized sh free toll fresh =
     record { cards = sh .cards; groups = sh .groups; rows = sh .rows; free = free; toll = toll; fresh = fresh }
 
 module _ (sh : Shape) (free toll fresh : ℕ) where
-  pub room-sized : {t : List ℕ} → fresh + span ≤ cellBound → Room sh t → Room (sized sh free toll fresh) t
+  pub room-sized : {t : List ℕ} → fresh + 2 * span ≤ cellBound → Room sh t → Room (sized sh free toll fresh) t
   room-sized low R = record {
     few = record { some = R .few .some; groups = R .few .groups; rows = R .few .rows; fresh = low };
     size = R .size;
@@ -59,7 +59,7 @@ module _ (sh : Shape) (free fresh : ℕ) where
   links-class sheet t L = linked-freed (residualOf sh sheet t) free L
 
   pub state-class :
-      {ch sheet t : List ℕ} → fresh + span ≤ cellBound → State sh ch sheet t → State (withClass sh free fresh) ch sheet t
+      {ch sheet t : List ℕ} → fresh + 2 * span ≤ cellBound → State sh ch sheet t → State (withClass sh free fresh) ch sheet t
   unfolding limitOf
   state-class low I = record {
     room = room-sized sh free (sh .toll) fresh low (I .room);
@@ -74,7 +74,7 @@ module _ (sh : Shape) (free fresh : ℕ) where
 -- back from another first free row and label
 module _ {sh : Shape} {free fresh : ℕ} {ch sheet t ch′ t′ : List ℕ} where
   pub filled-class :
-      sh .fresh + span ≤ cellBound → Filled (withClass sh free fresh) ch sheet t ch′ t′ → Filled sh ch sheet t ch′ t′
+      sh .fresh + 2 * span ≤ cellBound → Filled (withClass sh free fresh) ch sheet t ch′ t′ → Filled sh ch sheet t ch′ t′
   unfolding limitOf
   filled-class low F = record {
     state = state-class (withClass sh free fresh) (sh .free) (sh .fresh) low (F .state);

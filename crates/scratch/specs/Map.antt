@@ -205,7 +205,7 @@ pub record Few (sh : Shape) : Type 0 where
   pub some : 0 < sh .groups
   pub groups : sh .groups ≤ 2 * maxGroups
   pub rows : sh .rows ≤ maxRows
-  pub fresh : sh .fresh + span ≤ cellBound
+  pub fresh : sh .fresh + 2 * span ≤ cellBound
 
 pub record Room (sh : Shape) (t : List ℕ) : Type 0 where
   pub few : Few sh

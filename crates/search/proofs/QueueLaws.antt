@@ -2,7 +2,7 @@
 --   newest-of next-taken   two places of the queue are changed, and the node that is taken
 --   going-first going-most going-room going-queued going-newest going-taken going-open going-next going-found going-end    the queue
 --   lit-seeded lit-searched    before the first turn
---   labels-none labels-node labels-more fresh-none fresh-more    labels are given
+--   labels-none labels-read labels-more fresh-none fresh-more    labels are given
 use mathlib.Core.Path.{_≡_, refl, sym, ap, subst, _∙_}
 use mathlib.Core.Logic.{_≢_, ⊎-elim}
 use mathlib.Core.Bool.{Bool, true}
@@ -18,7 +18,7 @@ use Rattle.scratch.specs.Map.{arcIn, labelOf, predOf, queueOf, spareOf, keptOf,
 use Rattle.scratch.specs.View.{residualOf}
 use Rattle.look.specs.Reach.{Step, predIn, Spread, Reach, Done, Grew}
 use Rattle.look.specs.Look.{Reached}
-use Rattle.search.specs.Search.{ReachBy, Open, Scanned, Seeded, Asked, SearchedBy, Newest, Next, Queued, Relabelled, Refreshed, Every}
+use Rattle.search.specs.Search.{ReachBy, Open, Scanned, Seeded, Asked, SearchedBy, Newest, Next, Queued, RelabelledIn, Refreshed, Every}
 use Rattle.scratch.proofs.MapLaws.{keeps-none, keeps-then, keeps-more, put-keeps, room-keeps}
 use Rattle.look.proofs.LabelLaws.{pred-puts, spread-none, spread-then, spread-puts, spread-stale}
 use Rattle.look.proofs.ReachLaws.{reached-most, reach-later, reach-first}
@@ -218,33 +218,29 @@ module _
 --------------------------------------------------------------------------------
 -- Labels are given
 
-pub labels-none : {sh : Shape} {t : List ℕ} {x : ℕ} → Relabelled sh t t 0 x
+pub labels-none : {sh : Shape} {queue : ℕ → ℕ} {t : List ℕ} {x : ℕ} → RelabelledIn sh queue t t 0 x
 labels-none = record { only = keeps-none; given = λ i l. absurd (omega arith); else = λ v n. refl }
 
--- the node that gets the next label
-pub labels-node :
-    {sh : Shape} {t t′ : List ℕ} {n i v x : ℕ} → Queued sh t n → Relabelled sh t t′ i x → i < n → v ≡ queueOf sh t′ i → v < sh .groups + 2
-labels-node {i = i} Q C l e =
-    omega (arith, ap (λ (f : ℕ → ℕ). f i) (C .only .rest queues (λ k. omega arith)), Q .node i l)
+-- place j of the queue holds the node that it held
+pub labels-read :
+    {sh : Shape} {queue : ℕ → ℕ} {t t′ : List ℕ} {i x : ℕ} → RelabelledIn sh queue t t′ i x → (j : ℕ) → queueOf sh t′ j ≡ queueOf sh t j
+labels-read C j = ap (λ (f : ℕ → ℕ). f j) (C .only .rest queues (λ k. omega arith))
 
 pub labels-more :
-    {sh : Shape} {t t′ t″ : List ℕ} {i v x : ℕ} → Relabelled sh t t′ i x → v ≡ queueOf sh t′ i → Put sh t′ t″ labels v x →
-    Relabelled sh t t″ (i + 1) x
-labels-more {sh} {t} {t′} {t″} {i} {v} {x} C e P =
-    let q : queueOf sh t′ ≡ queueOf sh t = C .only .rest queues (λ k. omega arith) in
-    let w : v ≡ queueOf sh t i = e ∙ ap (λ (f : ℕ → ℕ). f i) q in
-    record {
-      only = keeps-then (C .only) (put-keeps refl P);
-      given = λ j l. ⊎-elim
-          (λ z. z .1)
-          (λ z.
-          elim (ℕ-discrete j i) [
-            | yes k ↦ absurd (z .0 (ap (queueOf sh t) k ∙ sym w))
-            | no k ↦ z .1 ∙ C .given j (omega arith)
-          ])
-          (puts-at (P .puts) (queueOf sh t j));
-      else = λ z n. P .puts .else z (λ k. n i (omega arith) (sym w ∙ sym k)) ∙ C .else z (λ j l. n j (omega arith));
-    }
+    {sh : Shape} {queue : ℕ → ℕ} {t t′ t″ : List ℕ} {i v x : ℕ} → RelabelledIn sh queue t t′ i x → v ≡ queue i → Put sh t′ t″ labels v x →
+    RelabelledIn sh queue t t″ (i + 1) x
+labels-more {queue = queue} {i = i} {v = v} C w P = record {
+  only = keeps-then (C .only) (put-keeps refl P);
+  given = λ j l. ⊎-elim
+      (λ z. z .1)
+      (λ z.
+      elim (ℕ-discrete j i) [
+        | yes k ↦ absurd (z .0 (ap queue k ∙ sym w))
+        | no k ↦ z .1 ∙ C .given j (omega arith)
+      ])
+      (puts-at (P .puts) (queue j));
+  else = λ z n. P .puts .else z (λ k. n i (omega arith) (sym w ∙ sym k)) ∙ C .else z (λ j l. n j (omega arith));
+}
 
 pub fresh-none : {sh : Shape} {t : List ℕ} → Refreshed sh t t 0
 fresh-none = record { only = keeps-none; fresh = λ v l. absurd (omega arith) }

@@ -16,8 +16,10 @@
 --                              a step from one before it, and each was fresh; where the target is not reached, no step leads from a
 --                              reached node to a fresh one. Node v is reached exactly where `predOf sh t′ v` is above 0
 --   Searched sh ch sheet t t′ start target n   the same along open arcs
---   Queued sh t n              the first n places of the queue hold nodes
---   Relabelled sh t t′ n x     the nodes in the first n places of the queue have the label x, and the others the old one
+--   QueuedIn sh t queue n      the first n places of a queue hold nodes
+--   RelabelledIn sh queue t t′ n x    the nodes in the first n places of a queue have the label x, and the others the old one
+--   Queued sh t n, Relabelled sh t t′ n x    the same of the queue in the buffer
+--   fromLast sh t              that queue from its last place down
 --   Refreshed sh t t′ m        the nodes below m are fresh
 use mathlib.Core.Path.{_≡_}
 use mathlib.Core.Logic.{_⊎_, _≢_}
@@ -98,15 +100,26 @@ pub record Newest (sh : Shape) (t t′ : List ℕ) (h n r : ℕ) : Type 0 where
 abbrev pub Next : Shape → List ℕ → List ℕ → ℕ → ℕ → ℕ → Type 0
 Next sh t t′ h n r = Newest sh t t′ h n r ⊎ ((t′ ≡ t) × (r ≡ queueOf sh t h))
 
-pub record Queued (sh : Shape) (t : List ℕ) (n : ℕ) : Type 0 where
+pub record QueuedIn (sh : Shape) (t : List ℕ) (queue : ℕ → ℕ) (n : ℕ) : Type 0 where
   pub room : Room sh t
   pub most : n ≤ sh .groups + 2
-  pub node : (i : ℕ) → i < n → queueOf sh t i < sh .groups + 2
+  pub node : (i : ℕ) → i < n → queue i < sh .groups + 2
 
-pub record Relabelled (sh : Shape) (t t′ : List ℕ) (n x : ℕ) : Type 0 where
+pub record RelabelledIn (sh : Shape) (queue : ℕ → ℕ) (t t′ : List ℕ) (n x : ℕ) : Type 0 where
   pub only : OnlyLabels sh t t′
-  pub given : (i : ℕ) → i < n → labelOf sh t′ (queueOf sh t i) ≡ x
-  pub else : (v : ℕ) → ((i : ℕ) → i < n → queueOf sh t i ≢ v) → labelOf sh t′ v ≡ labelOf sh t v
+  pub given : (i : ℕ) → i < n → labelOf sh t′ (queue i) ≡ x
+  pub else : (v : ℕ) → ((i : ℕ) → i < n → queue i ≢ v) → labelOf sh t′ v ≡ labelOf sh t v
+
+-- the queue from its first place up
+abbrev pub Queued : Shape → List ℕ → ℕ → Type 0
+Queued sh t n = QueuedIn sh t (queueOf sh t) n
+
+abbrev pub Relabelled : Shape → List ℕ → List ℕ → ℕ → ℕ → Type 0
+Relabelled sh t t′ n x = RelabelledIn sh (queueOf sh t) t t′ n x
+
+-- and from its last place down
+abbrev pub fromLast : Shape → List ℕ → ℕ → ℕ
+fromLast sh t i = queueOf sh t (sh .groups + 2 - i)
 
 pub record Refreshed (sh : Shape) (t t′ : List ℕ) (m : ℕ) : Type 0 where
   pub only : OnlyLabels sh t t′

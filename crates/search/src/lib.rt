@@ -11,7 +11,7 @@ ghost use Prim.Native.Nat.{_+_, _<_};
 ghost use Rattle.theory.specs.Bounds.{cellBound};
 ghost use Rattle.scratch.specs.Memory.{memory};
 ghost use Rattle.scratch.specs.Map.{labelOf, queueOf, Room};
-ghost use Rattle.search.specs.Search.{Newest, Next, Seeded, Asked, Searched, SearchedBy, Queued, Relabelled, Refreshed};
+ghost use Rattle.search.specs.Search.{Newest, Next, Seeded, Asked, Searched, SearchedBy, Queued, QueuedIn, Relabelled, RelabelledIn, fromLast, Refreshed};
 use entries::label;
 use entries::queue;
 use entries::set_label;
@@ -226,6 +226,30 @@ pub fn relabel(
 {
     for i in 0..n {
         let v = queue(sh, i, wide, scratch, scratch64);
+        set_label(sh, v, x, wide, scratch, scratch64);
+    }
+}
+
+// The same for the nodes in the last n places, from the last one down.
+pub fn relabel_last(
+    sh: Shape,
+    n: usize,
+    x: usize,
+    wide: bool,
+    scratch: &mut [u32],
+    scratch64: &mut [u64],
+)
+    requires { let scratch₀ = memory wide (now scratch) (now scratch64) in
+        ⌜ QueuedIn sh scratch₀ (fromLast sh scratch₀) n ⌝ }
+    requires { ⌜ x < cellBound ⌝ }
+    ensures { λ _.
+        let scratch₀ = memory wide (now (scratch .entry)) (now (scratch64 .entry)) in
+        let scratch′ = memory wide (now (scratch .exit)) (now (scratch64 .exit)) in
+        ⌜ RelabelledIn sh (fromLast sh scratch₀) scratch₀ scratch′ n x ⌝ }
+{
+    let g = sh.groups;
+    for i in 0..n {
+        let v = queue(sh, g + 2 - i, wide, scratch, scratch64);
         set_label(sh, v, x, wide, scratch, scratch64);
     }
 }

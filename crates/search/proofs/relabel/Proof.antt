@@ -1,15 +1,15 @@
 -- The loop's invariant: the nodes in the first i places of the queue have the label x, the others their old one. Only labels change, so the
--- queue that is read is still the one at entry (`labels-node`).
+-- queue that is read is still the one at entry (`labels-read`).
 use Rattle.scratch.specs.Memory.{memory}
 use borrow.Author.Needs.{needs}
-use mathlib.Core.Path.{_≡_, refl}
+use mathlib.Core.Path.{_≡_, refl, _∙_}
 use lib.ListN.{length}
 use native.Mathlib.Omega.{arith}
 use Prim.Native.Nat.{_-_, _≤_}
 use native.Mathlib.Nat.{le-antisymm}
 use Rattle.search.specs.Search.{Relabelled}
 use Rattle.scratch.proofs.MapLaws.{room-keeps}
-use Rattle.search.proofs.QueueLaws.{labels-none, labels-node, labels-more}
+use Rattle.search.proofs.QueueLaws.{labels-none, labels-read, labels-more}
 use Rattle.search.proofs.relabel.Statement.{statement}
 use Rattle.search.proofs.relabel.Tie as tie
 
@@ -38,7 +38,7 @@ set-label-requires c κs =
     let turn = test .before in
     let S = turn .before .before .before in
     let L = turn .loop in
-    (room-keeps (L .inv .0 .0 .only .long) (S .pre .0 .room), (labels-node (S .pre .0) (L .inv .0 .0) (test .loop-test .taken) (at-queue .queue .ensures), S .pre .1))
+    (room-keeps (L .inv .0 .0 .only .long) (S .pre .0 .room), (omega (arith, at-queue .queue .ensures, labels-read (L .inv .0 .0) (turn .loop .i), S .pre .0 .node (turn .loop .i) (test .loop-test .taken)), S .pre .1))
 
 add-i : tie.Need-add-i Inv-loop μ-loop
 add-i c =
@@ -55,7 +55,7 @@ loop-again c =
     let at-queue = at-set-label .before .before .before in
     let test = at-queue .before .before .before in
     let turn = test .before in
-    ((labels-more (turn .loop .inv .0 .0) (at-queue .queue .ensures) (at-set-label .set-label .ensures), omega (arith, test .loop-test .taken)), (search needs, search needs))
+    ((labels-more (turn .loop .inv .0 .0) (at-queue .queue .ensures ∙ labels-read (turn .loop .inv .0 .0) (turn .loop .i)) (at-set-label .set-label .ensures), omega (arith, test .loop-test .taken)), (search needs, search needs))
 
 same-length : tie.Need-same-length Inv-loop μ-loop
 same-length c = c .before .loop .inv .1 .0

@@ -1,0 +1,4 @@
+-- What the contracts say.
+pub mod Ends
+pub mod Meet
+pub mod Splice
