@@ -1,17 +1,21 @@
 /*
- * The table: every contestant on every family of days.
+ * The tables: every contestant on every family of days, and on days that are given as files.
  *
- *   bench                    the whole table
- *   bench day F N K          one day: family F (0 to 9), N claims, number K
- *   bench once WHO F N       contestant WHO settles the days of family F once, for a count of its instructions; prints the family's name
+ *   bench table FILE...      all tables, with the files as the found days
+ *   bench files FILE...      the table of these files
+ *   bench day F N K          one day: family F (0 to 17), N claims, number K
+ *   bench list               a line for each family: 1 or 0, for whether it is in the mean, and its name
+ *   bench once WHO F N       contestant WHO settles the days of family F once, for a count of its instructions
  */
 #include <stdio.h>
 #include <stdlib.h>
 #include <string.h>
+#include "found.h"
 #include "measure.h"
 #include "ours.h"
+#include "works.h"
 
-enum { OURS = 0, SIZES = 4, FULL = 3, REPEATS = 21, TIMES = 20 };
+enum { OURS = 0, SIZES = 4, FULL = 3 };
 
 static const unsigned sizes[SIZES] = {MOST_ROWS / 8, MOST_ROWS / 4, MOST_ROWS / 2, MOST_ROWS};
 
@@ -28,18 +32,18 @@ static void measure_size(unsigned s) {
         for (unsigned who = 0; who < contestant_count; who++) means[d / DAYS][s][who] += days[s][d][who] / DAYS;
 }
 
-/* The mean over all families at one size. */
-static double mean_of(unsigned s, unsigned who) {
+/* The mean at full size, over the families that are in it. */
+static double mean_of(unsigned who) {
     double sum = 0;
-    for (unsigned f = 0; f < FAMILIES; f++) sum += means[f][s][who];
-    return sum / FAMILIES;
+    for (unsigned f = 0; f < IN_MEAN; f++) sum += means[f][FULL][who];
+    return sum / IN_MEAN;
 }
 
 /* The hand-written peer with the least mean at full size. */
 static unsigned best_peer(void) {
     unsigned best = OURS;
     for (unsigned who = 1; who < contestant_count; who++)
-        if (contestants[who].knows_rows && (best == OURS || mean_of(FULL, who) < mean_of(FULL, best))) best = who;
+        if (contestants[who].knows_rows && (best == OURS || mean_of(who) < mean_of(best))) best = who;
     return best;
 }
 
@@ -50,13 +54,19 @@ static unsigned lemon(void) {
     return OURS;
 }
 
-static double worst_day(unsigned f, unsigned peer) {
+static double greater(double a, double b) { return a < b ? b : a; }
+
+/* The greatest ratio of ours to a peer on a day of the families from `first` on and before `end`. */
+static double worst_day(unsigned first, unsigned end, unsigned peer) {
     double worst = 0;
-    for (unsigned k = 0; k < DAYS; k++) {
-        double *day = days[FULL][f * DAYS + k];
-        double ratio = day[OURS] / day[peer];
-        if (ratio > worst) worst = ratio;
-    }
+    for (unsigned d = first * DAYS; d < end * DAYS; d++) worst = greater(worst, days[FULL][d][OURS] / days[FULL][d][peer]);
+    return worst;
+}
+
+/* The greatest ratio of the means of a family. */
+static double worst_family(unsigned peer) {
+    double worst = 0;
+    for (unsigned f = 0; f < FAMILIES; f++) worst = greater(worst, means[f][FULL][OURS] / means[f][FULL][peer]);
     return worst;
 }
 
@@ -67,27 +77,30 @@ static void print_ratio(double ours, double theirs, int known) {
         printf(" %9s", "-");
 }
 
-/* Full-size days: a line a family, then the mean. */
+static void print_line(const char *name, const double *times, unsigned peer, double worst) {
+    printf("%-18s", name);
+    for (unsigned who = 0; who < contestant_count; who++) printf(" %9.1f", times[who]);
+    print_ratio(times[OURS], times[lemon()], lemon() != OURS);
+    print_ratio(times[OURS], times[peer], 1);
+    printf(" %9.2f\n", worst);
+}
+
+/* Full-size days: a line for each family in the mean, the mean, and a line for each other family. */
 static void print_families(unsigned peer) {
+    double all[MOST_CONTESTANTS];
+    for (unsigned who = 0; who < contestant_count; who++) all[who] = mean_of(who);
     if (KINDS == SECOND_KINDS) printf("\nThe second terms: four kinds of rows, and weights of 64 bits.\n");
     printf("\nDays of %u claims, microseconds: mean over %u days of the median of %u.\n", sizes[FULL], DAYS, REPEATS);
     printf("%-18s", "family");
     for (unsigned who = 0; who < contestant_count; who++) printf(" %9s", contestants[who].name);
     printf(" %9s %9s %9s\n", "to LEMON", "to best C", "worst day");
-    for (unsigned f = 0; f <= FAMILIES; f++) {
-        double line[MOST_CONTESTANTS], worst = 0;
-        for (unsigned who = 0; who < contestant_count; who++) line[who] = f < FAMILIES ? means[f][FULL][who] : mean_of(FULL, who);
-        for (unsigned g = 0; g < FAMILIES; g++)
-            if ((g == f || f == FAMILIES) && worst_day(g, peer) > worst) worst = worst_day(g, peer);
-        printf("%-18s", f < FAMILIES ? family_names[f] : "mean");
-        for (unsigned who = 0; who < contestant_count; who++) printf(" %9.1f", line[who]);
-        print_ratio(line[OURS], line[lemon()], lemon() != OURS);
-        print_ratio(line[OURS], line[peer], 1);
-        printf(" %9.2f\n", worst);
+    for (unsigned f = 0; f < FAMILIES; f++) {
+        if (f == IN_MEAN) print_line("mean of these", all, peer, worst_day(0, IN_MEAN, peer));
+        print_line(families[f].name, means[f][FULL], peer, worst_day(f, f + 1, peer));
     }
 }
 
-/* Ours at each size, and how it grows with each doubling. Answers the greatest growth. */
+/* Ours at each size, and how it grows with each doubling. Answers the greatest growth of a family whose answer is not far. */
 static double print_growth(void) {
     double most = 0;
     printf("\nOurs as claims double, microseconds and growth.\n%-18s", "family");
@@ -95,132 +108,58 @@ static double print_growth(void) {
     for (unsigned s = 1; s < SIZES; s++) printf("    to %3u", sizes[s]);
     printf("\n");
     for (unsigned f = 0; f < FAMILIES; f++) {
-        printf("%-18s", family_names[f]);
+        printf("%-18s", families[f].name);
         for (unsigned s = 0; s < SIZES; s++) printf(" %9.1f", means[f][s][OURS]);
         for (unsigned s = 1; s < SIZES; s++) {
             double growth = means[f][s][OURS] / means[f][s - 1][OURS];
             printf(" %9.2f", growth);
-            if (growth > most) most = growth;
+            if (!families[f].is_far) most = greater(most, growth);
         }
-        printf("\n");
+        printf("%s\n", families[f].is_far ? "  many arcs to turn" : "");
     }
     return most;
 }
 
-/* ---- reading, fits and rank, and accept, which are measured under the first terms alone ---- */
-
-#if KINDS == 2
-
-static volatile unsigned sink;
-static uint8_t selection[MOST_ROWS];
-static struct day tables;
-
-static void judge_ours(const void *with) {
-    const struct file *d = with;
-    sink += ours_judge(d->bytes, d->length);
-}
-static void judge_plain(const void *with) {
-    const struct file *d = with;
-    sink += plain_judge(d->bytes, d->length);
-}
-static void read_plain(const void *with) {
-    const struct file *d = with;
-    sink += read_day(d->bytes, d->length, week_file, &tables);
-}
-static void rank_ours(const void *with) {
-    const struct file *d = with;
-    sink += ours_fits_and_rank(d->bytes, d->length, selection, MOST_ROWS, 0, 0).rank;
-    sink += ours_fits_and_rank(d->bytes, d->length, selection, MOST_ROWS, 1, 0).rank;
-}
-static void rank_plain(const void *with) {
-    const struct file *d = with;
-    sink += plain_fits_and_rank(d->bytes, d->length, selection, MOST_ROWS, 0, 0).rank;
-    sink += plain_fits_and_rank(d->bytes, d->length, selection, MOST_ROWS, 1, 0).rank;
-}
-static void rank_greedy(const void *with) {
-    const struct file *d = with;
-    sink += greedy_fits_and_rank(d->bytes, d->length, selection, MOST_ROWS, 0, 0).rank;
-    sink += greedy_fits_and_rank(d->bytes, d->length, selection, MOST_ROWS, 1, 0).rank;
-}
-
-/* Our own closing of the day, which stands in `closing` and in our sheet. */
-static struct outcome closing;
-static void accept_ours(const void *with) {
-    const struct file *d = with;
-    sink += ours_accept(d->bytes, d->length, closing.choice, MOST_ROWS, 0);
-}
-static void accept_plain(const void *with) {
-    const struct file *d = with;
-    sink += plain_accept(d->bytes, d->length, closing.choice, MOST_ROWS, ours_sheet(), MOST_MARKS, 0);
-}
-
-static void (*const works[])(const void *) = {judge_ours, judge_plain, read_plain, rank_ours, rank_plain, rank_greedy,
-                                              accept_ours, accept_plain};
-enum { JUDGE_OURS, JUDGE_PLAIN, READ_PLAIN, RANK_OURS, RANK_PLAIN, RANK_GREEDY, ACCEPT_OURS, ACCEPT_PLAIN, WORKS };
-
-static double work_means[WORKS];
-
-/* Reading, whole files and files that end early; ranks of two thirds of the rows, both sides; and our own closing judged. */
-static void measure_works(void) {
-    struct file day;
-    for (unsigned c = 0; c < MOST_ROWS; c++) selection[c] = c % 3 != 0;
-    for (unsigned f = 0; f < FAMILIES; f++)
-        for (unsigned k = 0; k < DAYS; k++) {
-            make_day(f, sizes[FULL], k, &day);
-            if (k % 2 == 0) day.length -= k + 1;
-            for (unsigned w = 0; w < RANK_OURS; w++) work_means[w] += measure_work(works[w], &day, TIMES, REPEATS) / (FAMILIES * DAYS);
-            make_day(f, sizes[FULL], k, &day);
-            ours_settle(day.bytes, day.length, &closing);
-            for (unsigned w = RANK_OURS; w < WORKS; w++) work_means[w] += measure_work(works[w], &day, TIMES, REPEATS) / (FAMILIES * DAYS);
-        }
-}
-
-static void print_works(void) {
-    printf("\nReading a file (accepted or refused), fits and rank of both sides, and accept of our own closing, microseconds.\n");
-    printf("reading:       ours %.2f, plain C %.2f, plain C into tables %.2f\n", work_means[JUDGE_OURS], work_means[JUDGE_PLAIN],
-           work_means[READ_PLAIN]);
-    printf("fits and rank: ours %.2f, plain C %.2f, greedy plain C %.2f\n", work_means[RANK_OURS], work_means[RANK_PLAIN],
-           work_means[RANK_GREEDY]);
-    printf("accept:        ours %.2f, plain C %.2f\n", work_means[ACCEPT_OURS], work_means[ACCEPT_PLAIN]);
-}
-
-static void target(const char *what, double value, double most);
-
-static void print_work_targets(void) {
-    target("reading to a plain C reader", work_means[JUDGE_OURS] / work_means[JUDGE_PLAIN], 3);
-    target("reading to a plain C reader into tables", work_means[JUDGE_OURS] / work_means[READ_PLAIN], 3);
-    target("fits and rank to plain C", work_means[RANK_OURS] / work_means[RANK_PLAIN], 1.5);
-    target("fits and rank to greedy plain C", work_means[RANK_OURS] / work_means[RANK_GREEDY], 3);
-    target("accept to plain C", work_means[ACCEPT_OURS] / work_means[ACCEPT_PLAIN], 1.5);
-}
-
-#else
-
-static void measure_works(void) {}
-static void print_works(void) {}
-static void print_work_targets(void) {}
-
-#endif
-
-/* ---- targets, which are those of the first terms ---- */
-
-static void target(const char *what, double value, double most) {
-    printf("%-58s %6.2f", what, value);
-    if (KINDS == FIRST_KINDS) printf(", target %.2f: %s", most, value <= most ? "met" : "missed");
+/* The days of files: a line for each, with the ratio of ours to each other contestant. */
+static void print_files(const char *what, unsigned count, char **paths) {
+    static struct file files[MOST_FOUND];
+    static double medians[MOST_FOUND][MOST_CONTESTANTS];
+    struct day tables;
+    for (unsigned k = 0; k < count; k++) read_file(paths[k], &files[k], &tables);
+    measure_days(files, count, REPEATS, medians);
+    printf("\nDays as files, microseconds: the median of %u, and ours to each other.\n%-18s", REPEATS, what);
+    for (unsigned who = 0; who < contestant_count; who++) printf(" %9s", contestants[who].name);
+    for (unsigned who = 1; who < contestant_count; who++)
+        printf("%*s %s", 12 - (int)strlen(contestants[who].name), "to", contestants[who].name);
     printf("\n");
+    for (unsigned k = 0; k < count; k++) {
+        printf("%-18s", name_of(paths[k]));
+        for (unsigned who = 0; who < contestant_count; who++) printf(" %9.1f", medians[k][who]);
+        for (unsigned who = 1; who < contestant_count; who++) printf(" %12.2f", medians[k][OURS] / medians[k][who]);
+        printf("\n");
+    }
 }
 
 static void print_targets(unsigned peer, double growth) {
-    double worst = 0;
-    for (unsigned f = 0; f < FAMILIES; f++)
-        if (worst_day(f, peer) > worst) worst = worst_day(f, peer);
     printf("\n");
-    if (lemon() != OURS) target("mean to LEMON's NetworkSimplex", mean_of(FULL, OURS) / mean_of(FULL, lemon()), 0.8);
+    if (lemon() != OURS) target("mean to LEMON's NetworkSimplex", mean_of(OURS) / mean_of(lemon()), 0.4);
     printf("best hand-written C: %s\n", contestants[peer].name);
-    target("mean to the best hand-written C", mean_of(FULL, OURS) / mean_of(FULL, peer), 0.5);
-    target("worst day to the best hand-written C", worst, 1.5);
-    target("greatest growth as claims double", growth, 4);
+    target("mean to the best hand-written C", mean_of(OURS) / mean_of(peer), 0.4);
+    target("greatest family to the best hand-written C", worst_family(peer), 1);
+    target("worst day to the best hand-written C", worst_day(0, FAMILIES, peer), 1.3);
+    target("greatest growth as claims double", growth, 2.6);
     print_work_targets();
+}
+
+static void print_tables(unsigned count, char **paths) {
+    for (unsigned s = 0; s < SIZES; s++) measure_size(s);
+    measure_works();
+    unsigned peer = best_peer();
+    print_families(peer);
+    double growth = print_growth();
+    if (count > 0) print_files("found day", count, paths);
+    print_works();
+    print_targets(peer, growth);
 }
 
 static void one_day(unsigned family, unsigned rows, unsigned number) {
@@ -230,7 +169,7 @@ static void one_day(unsigned family, unsigned rows, unsigned number) {
     make_day(family, rows, number, &day);
     ours_settle(day.bytes, day.length, &out);
     measure_days(&day, 1, MOST_REPEATS, medians);
-    printf("%s, %u claims, day %u: ", family_names[family], rows, number);
+    printf("%s, %u claims, day %u: ", families[family].name, rows, number);
     if (KINDS == FIRST_KINDS) printf("earned %u, ", out.of_kind[1]);
     for (unsigned kind = KINDS; KINDS == SECOND_KINDS && kind-- > 0;) printf("%u of kind %u, ", out.of_kind[kind], kind);
     printf("kept %u\n", out.kept);
@@ -241,7 +180,6 @@ static void one_day(unsigned family, unsigned rows, unsigned number) {
 static void settle_once(unsigned who, unsigned family, unsigned rows) {
     struct file day;
     struct outcome out;
-    printf("%s\n", family_names[family]);
     for (unsigned k = 0; k < DAYS; k++) {
         make_day(family, rows, k, &day);
         contestants[who].settle(day.bytes, day.length, &out);
@@ -250,21 +188,22 @@ static void settle_once(unsigned who, unsigned family, unsigned rows) {
 
 static unsigned number_of(const char *text) { return (unsigned)strtoul(text, NULL, 10); }
 
+static int is(const char *word, int argc, char **argv) { return argc > 1 && strcmp(argv[1], word) == 0; }
+
 int main(int argc, char **argv) {
-    if (argc == 5 && strcmp(argv[1], "day") == 0) {
+    unsigned files = (unsigned)argc - 2;
+    if (is("table", argc, argv) && files <= MOST_FOUND) {
+        print_tables(files, argv + 2);
+    } else if (is("files", argc, argv) && files <= MOST_FOUND) {
+        print_files("file", files, argv + 2);
+    } else if (is("day", argc, argv) && argc == 5) {
         if (number_of(argv[2]) >= FAMILIES || number_of(argv[3]) > MOST_ROWS || number_of(argv[3]) < 2) return 2;
         one_day(number_of(argv[2]), number_of(argv[3]), number_of(argv[4]));
-    } else if (argc == 5 && strcmp(argv[1], "once") == 0) {
+    } else if (is("list", argc, argv)) {
+        for (unsigned f = 0; f < FAMILIES; f++) printf("%d %s\n", f < IN_MEAN, families[f].name);
+    } else if (is("once", argc, argv) && argc == 5) {
         if (number_of(argv[2]) >= contestant_count || number_of(argv[3]) >= FAMILIES) return 2;
         settle_once(number_of(argv[2]), number_of(argv[3]), number_of(argv[4]));
-    } else if (argc == 1) {
-        for (unsigned s = 0; s < SIZES; s++) measure_size(s);
-        measure_works();
-        unsigned peer = best_peer();
-        print_families(peer);
-        double growth = print_growth();
-        print_works();
-        print_targets(peer, growth);
     } else {
         return 2;
     }

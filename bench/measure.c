@@ -1,4 +1,5 @@
-/* Medians of times. */
+/* Medians of times, and targets. */
+#include <stdio.h>
 #include <stdlib.h>
 #include <time.h>
 #include "measure.h"
@@ -53,4 +54,10 @@ double measure_work(void (*work)(const void *), const void *with, unsigned times
         taken[k] = (now() - start) / times;
     }
     return median(taken, repeats);
+}
+
+void target(const char *what, double value, double most) {
+    printf("%-58s %6.2f", what, value);
+    if (KINDS == FIRST_KINDS) printf(", target %.2f: %s", most, value <= most ? "met" : "missed");
+    printf("\n");
 }

@@ -1,10 +1,11 @@
-/* Medians of times, and a contestant's day. */
+/* Medians of times, a contestant's day, and targets. */
 #ifndef MEASURE_H
 #define MEASURE_H
 
 #include "contest.h"
 
-enum { MOST_CONTESTANTS = 4, MOST_REPEATS = 101, MOST_DAYS = FAMILIES * DAYS };
+/* A time is the median of REPEATS, except where a program says otherwise. MOST_DAYS are all days of a size, MEAN_DAYS those in the mean. */
+enum { MOST_CONTESTANTS = 4, REPEATS = 21, MOST_REPEATS = 101, MOST_DAYS = FAMILIES * DAYS, MEAN_DAYS = IN_MEAN * DAYS };
 
 struct contestant {
     const char *name;
@@ -28,5 +29,8 @@ void measure_days(const struct file *days, unsigned count, unsigned repeats, dou
 
 /* The median time of a piece of work done `times` times in a row, for one time. */
 double measure_work(void (*work)(const void *), const void *with, unsigned times, unsigned repeats);
+
+/* Prints a value, and under the first terms, which alone have targets, whether it is at most so great. */
+void target(const char *what, double value, double most);
 
 #endif

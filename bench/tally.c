@@ -1,13 +1,12 @@
 /*
- * The table of times of the calls on a tally: on the full-size days of days.h, and on chains of the most groups with all rows at their end,
- * of which half fit. A tally is begun and every row is put in that has a place, in row order; then every row is put in again, which is
- * refused; every count is read; and the rows are taken out.
+ * The table of times of the calls on a tally: on the full-size days of the families in the mean, and on chains of the most groups with all
+ * rows at their end, of which half fit. A tally is begun and every row is put in that has a place, in row order; then every row is put in
+ * again, which is refused; every count is read; and the rows are taken out.
  */
 #include <stdio.h>
 #include "measure.h"
 #include "ours.h"
 
-enum { REPEATS = 21 };
 enum { BEGIN, PUT_IN, REFUSED, COUNT, TAKE_OUT, CALLS_MADE };
 static const char *const names[CALLS_MADE] = {"begin", "put in", "put in, refused", "count", "take out"};
 
@@ -64,12 +63,12 @@ static void measure(const struct file *files, unsigned count, double *nanosecond
 }
 
 int main(void) {
-    static struct file days[MOST_DAYS], chains;
+    static struct file days[MEAN_DAYS], chains;
     double on_days[CALLS_MADE], on_chains[CALLS_MADE];
     struct day half = chain_day(MOST_ROWS / 2);
-    for (unsigned k = 0; k < MOST_DAYS; k++) make_day(k / DAYS, MOST_ROWS, k % DAYS, &days[k]);
+    for (unsigned k = 0; k < MEAN_DAYS; k++) make_day(k / DAYS, MOST_ROWS, k % DAYS, &days[k]);
     write_day(&half, WEEK, &chains);
-    measure(days, MOST_DAYS, on_days);
+    measure(days, MEAN_DAYS, on_days);
     measure(&chains, 1, on_chains);
     printf("%-34s %8s %8s\n", "a call on a tally, nanoseconds", "chains", "days");
     for (unsigned which = 0; which < CALLS_MADE; which++) printf("%-34s %8.0f %8.0f\n", names[which], on_chains[which], on_days[which]);
