@@ -1,95 +1,59 @@
 -- Laws of the search for the codes, in the buffers.
---   blocked-ended          where there is no path to the sink, the search is ended
---   crossed-onward crossed-more    where a path was turned, the next search may begin, and one row more is kept
---   Going ..               the loop's invariant; going-start going-next going-less    its laws
+--   Going ..               paths were turned, round after round; going-start going-next going-less    its laws
 --   sink-asked sink-aside sink-queued sink-labelled    the nodes that reach the sink have their label
---   ended-queued source-labelled    the nodes that are reached from the source have their label
+--   named-yes named-no named-none named-more source-labelled   the nodes that are reached from the source have their label
 use mathlib.Core.Path.{_≡_, refl, sym, ap, subst, _∙_}
-use mathlib.Core.Logic.{_≢_, inl, inr}
-use mathlib.Core.Bool.{true}
+use mathlib.Core.Logic.{_≢_, inl, inr, ⊎-elim}
+use mathlib.Core.Bool.{Bool, true, false, true≢false}
 use mathlib.Core.List.{List}
-use Prim.Native.Nat.{ℕ, suc, _+_, _-_, _<_}
+use Prim.Native.Nat.{ℕ, suc, _+_, _≤_, _<_}
 use native.Mathlib.Decide.{ℕ-discrete, decLt}
 use native.Mathlib.Omega.{arith}
 use lib.ListN.{length}
+use Rattle.theory.specs.Sum.{pick}
 use Rattle.theory.specs.Incidence.{size}
 use Rattle.theory.specs.Residual.{Arc}
 use Rattle.theory.proofs.SumLaws.{sum-le, sum-one}
+use Rattle.theory.proofs.TestLaws.{either}
 use Rattle.theory.proofs.CutLaws.{tail-node, head-node}
-use Rattle.exchange.specs.Plain.{Forward, Backward}
+use Rattle.exchange.specs.Plain.{Backward}
 use Rattle.scratch.specs.declared.Shape.{Shape}
-use Rattle.scratch.specs.Map.{OnlySearch, labelOf, predOf, spareOf, priceOf, keptOf}
+use Rattle.scratch.specs.Map.{OnlySearch, Put, arcIn, labelOf, predOf, spareOf, priceOf, keptOf, labels}
 use Rattle.scratch.specs.View.{residualOf}
 use Rattle.search.specs.Search.{Asked, SearchedBy, Queued, Relabelled}
-use Rattle.scratch.proofs.MapLaws.{keeps-none, keeps-then, keeps-more, room-keeps}
+use Rattle.scratch.proofs.MapLaws.{keeps-none, keeps-then, keeps-more, put-keeps, room-keeps}
 use Rattle.look.proofs.StepLaws.{same-lists}
-use Rattle.prices.specs.State.{limitOf, State}
-use Rattle.moves.specs.Path.{Renamed, Crossed, Blocked, Tried}
+use Rattle.prices.specs.State.{limitOf}
+use Rattle.walks.specs.Walk.{Round}
 use Rattle.solver.specs.Toll.{Running}
 use Rattle.prices.proofs.ReadyLaws.{state-ready}
 use Rattle.moves.proofs.LabelLaws.{arc-in-class}
-use Rattle.moves.proofs.MoveLaws.{OnlyUnread, residual-keeps, moves-keeps, unread-search, unread-keeps, spare-unread, limits-unread, state-unread, searched-reach, searched-rest, searched-fresh, searched-start, searched-closed, path-filled, path-more}
-use Rattle.moves.proofs.PathLaws.{queued-reach, renamed-reach}
-use Rattle.solver.proofs.TollLaws.{renamed-fresh, blocked-failed, path-lists}
+use Rattle.moves.proofs.MoveLaws.{residual-keeps, unread-search, unread-keeps, spare-unread, limits-unread, state-unread, searched-reach, searched-rest, searched-fresh, searched-start, searched-closed}
+use Rattle.moves.proofs.NameLaws.{queued-reach, renamed-reach}
+use Rattle.walks.proofs.RoundLaws.{toGo}
+use Rattle.solver.proofs.TollLaws.{stuck-cutting}
 use Rattle.labels.specs.Label.{fromSource, toSink}
-use Rattle.holders.specs.Find.{Ended, Onward, Augmented, SourceSide, Sides, SourceLabelled, BothLabelled}
-use Rattle.holders.proofs.LabelLaws.{source-same, sides-same, Changed, sides-of, reach-forward, reach-backward}
+use Rattle.holders.specs.Find.{Onward, Ended, Augmented, NamedNode, Named, SourceSide, Sides, SourceLabelled, BothLabelled}
+use Rattle.holders.proofs.LabelLaws.{source-same, sides-same, Changed, sides-of, reach-backward}
 
 --------------------------------------------------------------------------------
 -- Paths
 
-module _ {sh : Shape} {ch sheet t ch′ t′ : List ℕ} (R : Running sh ch sheet t) where
-  pub blocked-ended : {n : ℕ} → Blocked sh ch sheet t ch′ t′ (sh .groups) (sh .groups + 1) n → Ended sh ch′ sheet t′ n
-  blocked-ended B = record {
-    failed = blocked-failed R B;
-    begin = B .search .begin;
-    lists = same-lists sheet (B .search .only) (R .lists);
-  }
-
-  module _ (C : Crossed sh ch sheet t ch′ t′ (sh .groups) (sh .groups + 1)) where
-    abbrev unread : OnlyUnread sh t (C .seen)
-    unread = unread-search (C .search .only)
-
-    seen-state : State sh ch sheet (C .seen)
-    seen-state = state-unread unread (R .state)
-
-    pub crossed-onward : Onward sh ch sheet t ch′ t′
-    crossed-onward =
-        let W = C .turn in
-        let F = path-filled seen-state (moves-keeps (W .only)) ch′ (W .long) (W .flip) in
-        record {
-          running = record {
-            state = F .state;
-            lists = path-lists R (C .search) W;
-            all = R .all;
-            fresh = renamed-fresh sh (C .seen) t′ (λ v l none. searched-rest (C .search) v none ∙ R .fresh v l) (W .labels);
-          };
-          keeps = keeps-then (unread-keeps unread) (F .keeps);
-          limits = λ v l. F .limits v l ∙ limits-unread unread ch v;
-        }
-
-    pub crossed-more : size (sh .rows) (keptOf ch′) ≡ size (sh .rows) (keptOf ch) + 1
-    crossed-more = path-more seen-state (moves-keeps (C .turn .only)) ch′ (C .turn .long) (C .turn .flip)
-
-pub record Going (sh : Shape) (ch₀ sheet t₀ ch t : List ℕ) (n : ℕ) : Type 0 where
+pub record Going (sh : Shape) (ch₀ sheet t₀ ch t : List ℕ) (b : Bool) : Type 0 where
   pub long : length ch ≡ length ch₀
-  pub more : n ≡ 0 → Onward sh ch₀ sheet t₀ ch t
-  pub end : 0 < n → Augmented sh ch₀ sheet t₀ ch t n
+  pub more : b ≡ true → Onward sh ch₀ sheet t₀ ch t
+  pub end : b ≡ false → Augmented sh ch₀ sheet t₀ ch t
 
--- what the turns use up
-abbrev pub left : Shape → List ℕ → ℕ → ℕ
-left sh ch n = (sh .rows - size (sh .rows) (keptOf ch)) + (1 - n)
-
-pub going-start : {sh : Shape} {ch sheet t : List ℕ} → Running sh ch sheet t → Going sh ch sheet t ch t 0
-going-start R = record {
+pub going-start : {sh : Shape} {ch sheet t : List ℕ} {b : Bool} → b ≡ true → Running sh ch sheet t → Going sh ch sheet t ch t b
+going-start i R = record {
   long = refl;
   more = λ z. record { running = R; keeps = keeps-none; limits = λ v l. refl };
-  end = λ l. absurd (omega arith);
+  end = λ z. absurd (true≢false (sym i ∙ z));
 }
 
 module _
-    {sh : Shape} {ch₀ sheet t₀ ch t : List ℕ} {n : ℕ} (G : Going sh ch₀ sheet t₀ ch t n) (z : n ≡ 0) {ch′ t′ : List ℕ} {m : ℕ}
-    (T : Tried sh ch sheet t ch′ t′ (sh .groups) (sh .groups + 1) m)
+    {sh : Shape} {ch₀ sheet t₀ ch t : List ℕ} {b : Bool} (G : Going sh ch₀ sheet t₀ ch t b) (z : b ≡ true) {ch′ t′ : List ℕ} {m : Bool}
+    (T : Round sh ch sheet t ch′ t′ m)
   where
     abbrev before : Onward sh ch₀ sheet t₀ ch t
     before = G .more z
@@ -98,38 +62,51 @@ module _
     going-next long = record {
       long = long ∙ G .long;
       more = λ e.
-          let O = crossed-onward (before .running) (T .path e) in
+          let X = T .path e in
+          let B = X .begun in
           record {
-            running = O .running;
-            keeps = keeps-then (before .keeps) (O .keeps);
-            limits = λ v l. O .limits v l ∙ before .limits v l;
+            running = record { state = B .state; lists = B .lists; all = before .running .all; fresh = B .fresh };
+            keeps = keeps-then (before .keeps) (X .filled .keeps);
+            limits = λ v l. X .filled .limits v l ∙ before .limits v l;
           };
-      end = λ l.
-          let B = T .none l in
-          let unread = unread-search (B .search .only) in
+      end = λ e.
+          let X = T .none e in
+          let only = X .0 .0 in
+          let same = X .0 .1 in
+          let unread = unread-search only in
           record {
-            ended = blocked-ended (before .running) B;
+            ended = record {
+              state = stuck-cutting (before .running) only same (X .1) .state;
+              all = before .running .all;
+              stuck = X .1;
+              lists = same-lists sheet only (before .running .lists);
+            };
             keeps = keeps-then (before .keeps) (unread-keeps unread);
-            limits = λ v l.
-                ap (λ (x : List ℕ). limitOf sh x t′ v) (B .same) ∙ limits-unread unread ch v ∙ before .limits v l;
+            limits = λ v l. ap (λ (x : List ℕ). limitOf sh x t′ v) same ∙ limits-unread unread ch v ∙ before .limits v l;
           };
     }
 
-    pub going-less : left sh ch′ m < left sh ch n
+    pub going-less : toGo sh ch′ m < toGo sh ch b
     going-less =
-        elim (ℕ-discrete m 0) [
-          | yes e ↦
-              let C = T .path e in
-              omega (
-                arith,
-                crossed-more (before .running) C,
-                sum-le (sh .rows) {f = keptOf ch′} {g = λ c. 1}
-                    (crossed-onward (before .running) C .running .state .level .choice .bits),
-                sum-one (sh .rows),
-              )
-          | no e ↦
-              omega (arith, ap (λ (x : List ℕ). size (sh .rows) (keptOf x)) (T .none (omega arith) .same))
-        ]
+        ⊎-elim
+        (λ e.
+        let X = T .path e in
+        omega (
+          arith,
+          X .more,
+          ap (λ (x : Bool). pick {A = ℕ} x 1 0) z,
+          ap (λ (x : Bool). pick {A = ℕ} x 1 0) e,
+          sum-le (sh .rows) {f = keptOf ch′} {g = λ c. 1} (X .begun .state .level .choice .bits),
+          sum-one (sh .rows),
+        ))
+        (λ e.
+        omega (
+          arith,
+          ap (λ (x : Bool). pick {A = ℕ} x 1 0) z,
+          ap (λ (x : Bool). pick {A = ℕ} x 1 0) e,
+          ap (λ (x : List ℕ). size (sh .rows) (keptOf x)) (T .none e .0 .1),
+        ))
+        (either m)
 
 --------------------------------------------------------------------------------
 -- The nodes that reach the sink
@@ -211,67 +188,93 @@ module _ {sh : Shape} {ch sheet t : List ℕ} (A : SourceLabelled sh ch sheet t)
 --------------------------------------------------------------------------------
 -- The nodes that are reached from the source
 
+pub named-yes :
+    {sh : Shape} {t t′ : List ℕ} {v p : ℕ} → p ≡ predOf sh t v → 0 < p → Put sh t t′ labels v fromSource → NamedNode sh t t′ v
+named-yes i l P = record {
+  only = put-keeps refl P;
+  name = inl (omega arith, P .puts .here);
+  else = λ w n. P .puts .else w n;
+}
+
+pub named-no : {sh : Shape} {t : List ℕ} (v : ℕ) {p : ℕ} → p ≡ predOf sh t v → p ≤ 0 → NamedNode sh t t v
+named-no v i l = record { only = keeps-none; name = inr (omega arith, refl); else = λ w n. refl }
+
+pub named-none : {sh : Shape} {t : List ℕ} → Named sh t t 0
+named-none = record { only = keeps-none; name = λ v l. absurd (omega arith); else = λ w l. refl }
+
+pub named-more :
+    {sh : Shape} {t t′ t″ : List ℕ} {v : ℕ} → Named sh t t′ v → NamedNode sh t′ t″ v → Named sh t t″ (v + 1)
+named-more {sh} {t} {t′} {t″} {v} A N =
+    let same : labelOf sh t′ v ≡ labelOf sh t v = A .else v (omega arith) in
+    let was : predOf sh t′ v ≡ predOf sh t v = ap (arcIn (sh .fresh)) same in
+    record {
+      only = keeps-then (A .only) (N .only);
+      name = λ w l.
+          elim (ℕ-discrete w v) [
+            | yes k ↦
+                rw k
+                (⊎-elim
+                (λ x. inl (omega (arith, was, x .0), x .1))
+                (λ x. inr (omega (arith, was, x .0), x .1 ∙ same))
+                (N .name))
+            | no k ↦
+                ⊎-elim
+                (λ x. inl (x .0, N .else w k ∙ x .1))
+                (λ x. inr (x .0, N .else w k ∙ x .1))
+                (A .name w (omega arith))
+          ];
+      else = λ w l. N .else w (λ k. omega arith) ∙ A .else w (omega arith);
+    }
+
 module _
-    {sh : Shape} {ch sheet t : List ℕ} {n : ℕ} (E : Ended sh ch sheet t n) (fresh : sh .fresh ≡ 0)
+    {sh : Shape} {ch sheet t : List ℕ} (E : Ended sh ch sheet t) (fresh : sh .fresh ≡ 0) {t′ : List ℕ}
+    (L : Named sh t t′ (sh .groups + 2))
   where
-    pub ended-queued : Queued sh t n
-    ended-queued = queued-reach sh ch sheet t (E .failed .reach) refl (E .failed .cut .state .room)
+    only : OnlySearch sh t t′
+    only = keeps-more (λ l p. omega arith) (L .only)
 
-    module _ {t′ : List ℕ} (L : Relabelled sh t t′ n fromSource) where
-      renamed : Renamed sh t t′ fromSource
-      renamed = renamed-reach sh ch sheet t (E .failed .reach) refl refl L
+    -- a reached node has the label, and another has none
+    yes-label : (v : ℕ) → v < sh .groups + 2 → 0 < predOf sh t v → labelOf sh t′ v ≡ fromSource
+    yes-label v l some = elim (L .name v l) [ inl w ↦ w .1 | inr w ↦ absurd (omega (arith, w .0)) ]
 
-      only : OnlySearch sh t t′
-      only = keeps-more (λ l p. omega arith) (L .only)
+    no-label : (v : ℕ) → v < sh .groups + 2 → predOf sh t v ≡ 0 → labelOf sh t′ v ≡ 0
+    no-label v l none =
+        elim (L .name v l) [
+          | inl w ↦ absurd (omega (arith, w .0))
+          | inr w ↦ w .1 ∙ E .stuck .rest v l none ∙ fresh
+        ]
 
-      -- a reached node has the label, and another has none
-      yes-label : (v : ℕ) → v < sh .groups + 2 → 0 < predOf sh t v → labelOf sh t′ v ≡ fromSource
-      yes-label v l some = elim (renamed v l) [ inl w ↦ w .1 | inr w ↦ absurd (omega (arith, w .0)) ]
+    from-label : (v : ℕ) → v < sh .groups + 2 → labelOf sh t′ v ≡ fromSource → 0 < predOf sh t v
+    from-label v l e =
+        elim (decLt 0 (predOf sh t v)) [ yes h ↦ h | no h ↦ absurd (omega (arith, no-label v l (omega arith))) ]
 
-      no-label : (v : ℕ) → v < sh .groups + 2 → predOf sh t v ≡ 0 → labelOf sh t′ v ≡ 0
-      no-label v l none =
-          elim (renamed v l) [
-            | inl w ↦ absurd (omega (arith, w .0))
-            | inr w ↦ w .1 ∙ E .failed .rest v l none ∙ fresh
-          ]
+    front₀ : SourceSide (residualOf sh sheet t) (keptOf ch) (spareOf sh t) (labelOf sh t′)
+    front₀ = record {
+      named = λ v l.
+          elim (decLt 0 (predOf sh t v)) [
+            | no h ↦ inl (no-label v l (omega arith))
+            | yes h ↦ inr (yes-label v l h, E .stuck .from v l h)
+          ];
+      source = yes-label (sh .groups) (omega arith) (E .stuck .cut .start);
+      sink = no-label (sh .groups + 1) (omega arith) (E .stuck .cut .target);
+      ahead = λ e u v a h.
+          yes-label v (head e u v a) (E .stuck .cut .closed e u v a (from-label u (tail e u v a) h));
+    }
+      where
+        head : (e u v : ℕ) → Arc (residualOf sh sheet t) (keptOf ch) (spareOf sh t) e u v 0 → v < sh .groups + 2
+        head e u v a = head-node (residualOf sh sheet t) (keptOf ch) (spareOf sh t) (E .state .formed) e u v 0 a
 
-      from-label : (v : ℕ) → v < sh .groups + 2 → labelOf sh t′ v ≡ fromSource → 0 < predOf sh t v
-      from-label v l e =
-          elim (decLt 0 (predOf sh t v)) [ yes h ↦ h | no h ↦ absurd (omega (arith, no-label v l (omega arith))) ]
+        tail : (e u v : ℕ) → Arc (residualOf sh sheet t) (keptOf ch) (spareOf sh t) e u v 0 → u < sh .groups + 2
+        tail e u v a = tail-node (residualOf sh sheet t) (keptOf ch) (spareOf sh t) (E .state .formed) e u v 0 a
 
-      front₀ : SourceSide (residualOf sh sheet t) (keptOf ch) (spareOf sh t) (labelOf sh t′)
-      front₀ = record {
-        named = λ v l.
-            elim (decLt 0 (predOf sh t v)) [
-              | no h ↦ inl (no-label v l (omega arith))
-              | yes h ↦
-                  let w = E .failed .reach .spot v l h in
-                  inr (
-                    yes-label v l h,
-                    subst (λ (u : ℕ). Forward (residualOf sh sheet t) (keptOf ch) (spareOf sh t) u) (w .2)
-                        (reach-forward (E .failed .reach) (E .begin) (suc (w .0)) (w .0) (omega arith) (w .1)),
-                  )
-            ];
-        source = yes-label (sh .groups) (omega arith) (E .failed .cut .cut .start);
-        sink = no-label (sh .groups + 1) (omega arith) (E .failed .cut .cut .target);
-        ahead = λ e u v a h.
-            yes-label v (head e u v a) (E .failed .cut .cut .closed e u v a (from-label u (tail e u v a) h));
-      }
-        where
-          head : (e u v : ℕ) → Arc (residualOf sh sheet t) (keptOf ch) (spareOf sh t) e u v 0 → v < sh .groups + 2
-          head e u v a = head-node (residualOf sh sheet t) (keptOf ch) (spareOf sh t) (E .failed .cut .state .formed) e u v 0 a
-
-          tail : (e u v : ℕ) → Arc (residualOf sh sheet t) (keptOf ch) (spareOf sh t) e u v 0 → u < sh .groups + 2
-          tail e u v a = tail-node (residualOf sh sheet t) (keptOf ch) (spareOf sh t) (E .failed .cut .state .formed) e u v 0 a
-
-      pub source-labelled : ((v : ℕ) → priceOf sh sheet v ≡ 0) → SourceLabelled sh ch sheet t′
-      source-labelled prices = record {
-        based = record {
-          state = state-unread (unread-search only) (E .failed .cut .state);
-          lists = same-lists sheet only (E .lists);
-          all = E .failed .cut .all;
-          fresh = fresh;
-          prices = prices;
-        };
-        front = source-same (residual-keeps (unread-keeps (unread-search only)) sheet) (spare-unread (unread-search only)) front₀;
-      }
+    pub source-labelled : ((v : ℕ) → priceOf sh sheet v ≡ 0) → SourceLabelled sh ch sheet t′
+    source-labelled prices = record {
+      based = record {
+        state = state-unread (unread-search only) (E .state);
+        lists = same-lists sheet only (E .lists);
+        all = E .all;
+        fresh = fresh;
+        prices = prices;
+      };
+      front = source-same (residual-keeps (unread-keeps (unread-search only)) sheet) (spare-unread (unread-search only)) front₀;
+    }

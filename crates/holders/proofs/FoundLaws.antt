@@ -21,14 +21,13 @@ use Rattle.exchange.proofs.CodeLaws.Marked.{ordinary-row, source-row, sink-row,
 use Rattle.scratch.specs.declared.Shape.{Shape}
 use Rattle.scratch.specs.Map.{Keeps, labelOf, spareOf, cardOf, shopOf, weightOf, priceOf, keptOf}
 use Rattle.scratch.specs.View.{netOf, residualOf}
-use Rattle.search.specs.Search.{Relabelled}
 use Rattle.scratch.proofs.MapLaws.{keeps-then}
 use Rattle.prices.specs.State.{Working, limitOf}
 use Rattle.solver.specs.Solve.{Started}
 use Rattle.prices.proofs.StateLaws.{net-keeps, weight-keeps}
 use Rattle.moves.proofs.MoveLaws.{unread-labels, unread-search, unread-keeps, limits-unread}
 use Rattle.labels.specs.Label.{fromSource, toSink, Reads, Coding}
-use Rattle.holders.specs.Find.{Augmented, BothLabelled, Found}
+use Rattle.holders.specs.Find.{Augmented, Named, BothLabelled, Found}
 
 module _
     {sh : Shape} {ch sheet t₀ t : List ℕ} (S : BothLabelled sh ch sheet t₀ t) (zero-price : (v : ℕ) → priceOf sh sheet v ≡ 0)
@@ -163,8 +162,8 @@ codes-net : {d d′ : Network} {limit kind k : ℕ → ℕ} → d′ ≡ d → C
 codes-net {d} {d′} {limit} {kind} {k} e C = subst (λ (x : Network). Codes x limit kind k) e C
 
 module _
-    {sh : Shape} {t ch₁ sheet t₁ ch₂ t₂ t₃ t₄ ch₃ : List ℕ} {n : ℕ}
-    (A : Started sh t ch₁ sheet t₁) (G : Augmented sh ch₁ sheet t₁ ch₂ t₂ n) (L : Relabelled sh t₂ t₃ n fromSource)
+    {sh : Shape} {t ch₁ sheet t₁ ch₂ t₂ t₃ t₄ ch₃ : List ℕ}
+    (A : Started sh t ch₁ sheet t₁) (G : Augmented sh ch₁ sheet t₁ ch₂ t₂) (L : Named sh t₂ t₃ (sh .groups + 2))
     (Z : BothLabelled sh ch₂ sheet t₃ t₄) (C : Coding sh t₄ ch₂ ch₃ (sh .rows))
   where
     keeps : Keeps sh Working t t₄

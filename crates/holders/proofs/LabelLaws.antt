@@ -2,17 +2,16 @@
 --   source-same sides-same  in another list with the same network
 --   Changed ..             what a search and a new label for the reached nodes do to the labels
 --   sides-of               the nodes that reach the sink get their label
---   reach-forward reach-backward       the nodes that a search reaches from the source, and against the arcs from the sink
+--   reach-backward         the nodes that a search against the arcs from the sink reaches
 use mathlib.Core.Path.{_≡_, sym, _∙_}
 use mathlib.Core.Logic.{_⊎_, inl, inr, _≢_, ⊎-elim}
-use mathlib.Core.Bool.{true, false}
+use mathlib.Core.Bool.{true}
 use Prim.Native.Nat.{ℕ, zero, suc, _+_, _<_}
 use native.Mathlib.Omega.{arith}
 use Rattle.theory.specs.Formed.{Formed}
 use Rattle.theory.specs.Residual.{Residual, Arc}
 use Rattle.theory.proofs.CutLaws.{tail-node, head-node}
-use Rattle.exchange.specs.Plain.{Forward, Backward}
-use Rattle.exchange.specs.Plain.Forward.{source, onward}
+use Rattle.exchange.specs.Plain.{Backward}
 use Rattle.exchange.specs.Plain.Backward.{sink, homeward}
 use Rattle.look.specs.Reach.{Reach}
 use Rattle.labels.specs.Label.{fromSource, toSink}
@@ -25,16 +24,6 @@ source-same e p A = rw (e, p) A
 pub sides-same :
     {r r′ : Residual} {S f f′ label : ℕ → ℕ} → r′ ≡ r → f′ ≡ f → Sides r S f label → Sides r′ S f′ label
 sides-same e p A = rw (e, p) A
-
-module _ {r : Residual} {S spare pred queue : ℕ → ℕ} {h n : ℕ} (R : Reach false r S spare pred queue h n) where
-  pub reach-forward :
-      queue 0 ≡ r .net .groups → (k i : ℕ) → i < k → i < n → Forward r S spare (queue i)
-  reach-forward e zero i l m = absurd (omega arith)
-  reach-forward e (suc k) zero l m = rw e source
-  reach-forward e (suc k) (suc i) l m =
-      let c = R .come (suc i) m (omega arith) in
-      onward (c .by) (queue (c .j)) (queue (suc i))
-      (reach-forward e k (c .j) (omega (arith, c .before)) (omega (arith, c .before))) (c .arc)
 
 module _ {r : Residual} {S spare pred queue : ℕ → ℕ} {h n : ℕ} (R : Reach true r S spare pred queue h n) where
   pub reach-backward :

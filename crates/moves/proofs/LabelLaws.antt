@@ -1,6 +1,5 @@
 -- Laws of the labels: what a label says of the class with label b.
---   arc-in-same            a fresh node is not reached
---   arc-in-class           nor is a node with the label of any class
+--   arc-in-class           a node with the label of a class is not reached
 --   pred-node              what is reached is a node
 use mathlib.Core.Path.{_≡_}
 use mathlib.Core.List.{List}
@@ -11,9 +10,6 @@ use Rattle.scratch.specs.declared.Shape.{Shape}
 use Rattle.scratch.specs.Map.{labels, span, labelOf, arcIn, predOf}
 use Rattle.scratch.proofs.MapLaws.{table-out, arc-in-far}
 use Rattle.look.proofs.LabelLaws.{arc-in-low}
-
-pub arc-in-same : (b x : ℕ) → x ≡ b → arcIn b x ≡ 0
-arc-in-same b x e = arc-in-low b x (omega arith)
 
 pub arc-in-class : (b x j k : ℕ) → b ≡ span * j → x ≡ span * k → arcIn b x ≡ 0
 arc-in-class b x j k p q =

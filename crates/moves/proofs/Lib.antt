@@ -1,6 +1,6 @@
 -- The laws that belong to no one function.
 pub mod PlaceLaws
 pub mod LabelLaws
-pub mod PathLaws
+pub mod NameLaws
 pub mod MoveLaws
 pub mod JoinLaws

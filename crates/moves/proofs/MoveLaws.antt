@@ -5,13 +5,10 @@
 --   OnlyUnread                      only working tables change that the state does not read: all but the spares
 --   unread-labels unread-search unread-lists unread-firsts    so do new labels, a search, new lists, and a row that leaves its lists
 --   unread-keeps spare-unread limits-unread state-unread filled-unread    what they leave
---   searched-reach searched-found   in the tables that a search left: what it reached, and where it found its target what turning
---                                   the path asks
---   search-blocked search-crossed   what trying a path promises: where the search did not find its target, and where the path was turned
+--   searched-reach                  in the tables that a search left: what it reached
 --   searched-rest searched-fresh searched-start    the nodes that are not reached have their old label, those that are were fresh,
 --                                   and the start is reached
---   searched-closed searched-cut    where it did not find its target, no open arc leads from a reached node to one that was fresh;
---                                   so where all were fresh, the reached nodes are closed
+--   searched-closed                 where it did not find its target, no open arc leads from a reached node to one that was fresh
 --   counts-limits                   places left and kept rows that make the old limits
 --   ordered-keeps                   the row order, where only the working tables change and the limits stay
 --   path-filled path-more           a walk from the source to the sink keeps one row more
@@ -30,9 +27,8 @@ use Rattle.theory.specs.Incidence.{size}
 use Rattle.theory.specs.Network.{Network}
 use Rattle.theory.specs.Formed.{Formed}
 use Rattle.theory.specs.Level.{count, Counts, Ordered}
-use Rattle.theory.specs.Residual.{Residual, Cut}
+use Rattle.theory.specs.Residual.{Residual}
 use Rattle.theory.specs.Turn.{Flipped}
-use Rattle.theory.proofs.CutLaws.{tail-node, head-node}
 use Rattle.theory.proofs.FlipLaws.{path-size, path-counts, path-level, cycle-size, cycle-counts, cycle-level, cycle-ordered}
 use Rattle.scratch.specs.declared.Shape.{Shape}
 use Rattle.scratch.specs.Map.{Keeps, OnlySearch, OnlyLabels, OnlyLists, PutKept, arcIn, labelOf, predOf, spareOf, cardOf, shopOf, weightOf, keptOf, spares, firsts, childAfters, cardAfters, shopAfters, parents, rowPrice}
@@ -40,15 +36,13 @@ use Rattle.scratch.specs.View.{netOf, residualOf}
 use Rattle.residual.specs.Items.{Item, Unlisted, Linked, Links}
 use Rattle.paths.specs.Flip.{OldFrom}
 use Rattle.look.specs.Reach.{Step, Reach}
-use Rattle.search.specs.Search.{ReachBy, SearchedBy, Searched}
+use Rattle.search.specs.Search.{ReachBy, SearchedBy}
 use Rattle.scratch.proofs.MapLaws.{keeps-more, residual-same}
 use Rattle.residual.proofs.LinkLaws.{linked-still}
 use Rattle.look.proofs.ReachLaws.{unlisted-open, unlisted-closed}
-use Rattle.paths.proofs.FlipLaws.{path-reach}
-use Rattle.prices.specs.State.{Working, OnlyMoves, AllFresh, limitOf, State, Filled}
-use Rattle.moves.specs.Path.{Found, TurnedBack, Tried}
+use Rattle.prices.specs.State.{Working, OnlyMoves, limitOf, State, Filled}
 use Rattle.prices.proofs.StateLaws.{net-keeps, weight-keeps, state-change, filled-change}
-use Rattle.prices.proofs.ReadyLaws.{state-ready, state-counts}
+use Rattle.prices.proofs.ReadyLaws.{state-counts}
 
 --------------------------------------------------------------------------------
 -- Where only the working tables change
@@ -58,10 +52,6 @@ linked-same :
     {r r′ : Residual} {s f f′ a a′ b b′ c c′ : ℕ → ℕ} {lo : ℕ} → r′ ≡ r → f′ ≡ f → a′ ≡ a → b′ ≡ b → c′ ≡ c →
     Linked r s f a b c lo → Linked r′ s f′ a′ b′ c′ lo
 linked-same e p q x y L = rw (e, p, q, x, y) L
-
-cut-same :
-    {r r′ : Residual} {S f f′ R : ℕ → ℕ} {a b : ℕ} → r′ ≡ r → f′ ≡ f → Cut r S f R a b → Cut r′ S f′ R a b
-cut-same e p C = rw (e, p) C
 
 reach-same :
     {back : Bool} {r r′ : Residual} {S f f′ pred queue : ℕ → ℕ} {h n : ℕ} → r′ ≡ r → f′ ≡ f → Reach back r S f pred queue h n →
@@ -215,46 +205,6 @@ module _
           | yes l ↦ l
           | no l ↦ absurd (X .closed lost u node from e v A (searched-rest v (omega arith) ∙ was))
         ]
-
-module _
-    {sh : Shape} {ch sheet t t′ : List ℕ} {start target n : ℕ} (X : Searched sh ch sheet t t′ start target n)
-  where
-    pub searched-found :
-        State sh ch sheet t → target < sh .groups + 2 → 0 < predOf sh t′ target → Found sh ch sheet t′ start target n
-    unfolding limitOf
-    searched-found I node found =
-        let J : State sh ch sheet t′ = state-unread (unread-search (X .only)) I in
-        record {
-          path = path-reach (state-ready J) (searched-reach X) (X .begin) node found (J .low);
-          reach = searched-reach X;
-        }
-
-    pub search-blocked : predOf sh t′ target ≡ 0 → Tried sh ch sheet t ch t′ start target n
-    search-blocked lost = record {
-      path = λ z. absurd (omega (arith, X .reach .some));
-      none = λ l. record { search = X; lost = lost; same = refl };
-    }
-
-    pub search-crossed :
-        {ch″ t″ : List ℕ} → TurnedBack sh ch sheet t′ ch″ t″ start target → Tried sh ch sheet t ch″ t″ start target 0
-    search-crossed T = record {
-      path = λ z. record { n = n; seen = t′; search = X; turn = T };
-      none = λ l. absurd (omega arith);
-    }
-
-    pub searched-cut :
-        Formed (netOf sh t) → AllFresh sh t → predOf sh t′ target ≡ 0 →
-        Cut (residualOf sh sheet t′) (keptOf ch) (spareOf sh t′) (predOf sh t′) start target
-    searched-cut F fresh lost =
-        let K = unread-search (X .only) in
-        cut-same (residual-keeps (unread-keeps K) sheet) (spare-unread K)
-        (record {
-          closed = λ e u v A from.
-              searched-closed X lost e u v (tail-node (residualOf sh sheet t) (keptOf ch) (spareOf sh t) F e u v 0 A) A from
-              (fresh v (head-node (residualOf sh sheet t) (keptOf ch) (spareOf sh t) F e u v 0 A));
-          start = searched-start X;
-          target = lost;
-        })
 
 --------------------------------------------------------------------------------
 -- A walk that is turned round

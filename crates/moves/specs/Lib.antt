@@ -1,4 +1,4 @@
 -- What the contracts say.
 pub mod Fill
 pub mod Join
-pub mod Path
+pub mod Names

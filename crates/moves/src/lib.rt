@@ -1,4 +1,3 @@
-// What changes the choice under prices that stay: rows are filled in where there is a place, and a path is searched and turned round.
+// What changes the choice under prices that stay: rows are filled in where there is a place, and a path is turned round.
 pub mod fill;
 pub mod join;
-pub mod path;

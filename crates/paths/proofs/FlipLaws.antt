@@ -3,13 +3,13 @@
 --   stands-reach path-reach    in the queue of a search the walk back can begin at every node that was reached
 --   At sh ch₀ sheet t₀ start target ch t u i    the walk has come back to u by i arcs
 --   at-first at-turning at-next at-end   it begins at the target, turns the arc into u, goes on, and ends at the start
---   at-last               it has come to the start when as many arcs are turned as there are nodes
+--   at-more               where it has not come to the start, fewer arcs are turned than there are nodes
 use mathlib.Core.Path.{_≡_, refl, sym, ap, subst, _∙_}
 use mathlib.Core.Logic.{_≢_, ⊎-elim}
 use mathlib.Core.Bool.{false}
 use mathlib.Core.List.{List}
 use Prim.Native.Nat.{ℕ, _+_, _-_, _≤_, _<_}
-use native.Mathlib.Decide.{ℕ-discrete, decLt}
+use native.Mathlib.Decide.{decLt}
 use native.Mathlib.Omega.{arith}
 use lib.ListN.{length}
 use Rattle.theory.specs.Network.{Network}
@@ -177,9 +177,5 @@ module _
     at-end e = record { only = I .only; long = I .long; flip = rw e at (I .walk .flip); inside = I .walk .inside; old = I .old }
 
     -- no node but the start has place 0
-    pub at-last : sh .groups + 2 ≤ i → u ≡ start
-    at-last l =
-        elim (ℕ-discrete u start) [
-          | yes e ↦ e
-          | no z ↦ absurd (omega (arith, I .left, come z .before))
-        ]
+    pub at-more : u ≢ start → i < sh .groups + 2
+    at-more z = omega (arith, I .left, come z .before)

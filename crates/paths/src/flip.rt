@@ -111,12 +111,11 @@ pub fn flip(
         let scratch′ = memory wide (now (scratch .exit)) (now (scratch64 .exit)) in
         ⌜ Walked sh (now (choice .entry)) sheet₀ scratch₀ (now (choice .exit)) scratch′ start target ⌝ }
 {
-    let g = sh.groups;
     let mut u = target;
-    for _ in 0..g + 2 {
-        if u == start {
-            return;
-        }
+    // counted for the proof alone
+    let mut arcs: usize = 0;
+    while u != start {
         u = turn(sh, u, choice, wide, sheet, sheet64, scratch, scratch64);
+        arcs += 1;
     }
 }

@@ -1,6 +1,5 @@
 -- Laws of the queue, of what stands before its first turn, and of labels that are given.
---   newest-of next-taken   two places of the queue are changed, and the node that is taken
---   going-first going-most going-room going-queued going-newest going-taken going-open going-next going-found going-end    the queue
+--   going-first going-most going-room going-open going-next going-found going-end    the queue
 --   lit-seeded lit-searched    before the first turn
 --   labels-none labels-read labels-more fresh-none fresh-more    labels are given
 use mathlib.Core.Path.{_≡_, refl, sym, ap, subst, _∙_}
@@ -18,37 +17,14 @@ use Rattle.scratch.specs.Map.{arcIn, labelOf, predOf, queueOf, spareOf, keptOf,
 use Rattle.scratch.specs.View.{residualOf}
 use Rattle.look.specs.Reach.{Step, predIn, Spread, Reach, Done, Grew}
 use Rattle.look.specs.Look.{Reached}
-use Rattle.search.specs.Search.{ReachBy, Open, Scanned, Seeded, Asked, SearchedBy, Newest, Next, Queued, RelabelledIn, Refreshed, Every}
+use Rattle.search.specs.Search.{ReachBy, Open, Scanned, Seeded, Asked, SearchedBy, Queued, RelabelledIn, Refreshed, Every}
 use Rattle.scratch.proofs.MapLaws.{keeps-none, keeps-then, keeps-more, put-keeps, room-keeps}
 use Rattle.look.proofs.LabelLaws.{pred-puts, spread-none, spread-then, spread-puts, spread-stale}
 use Rattle.look.proofs.ReachLaws.{reached-most, reach-later, reach-first}
-use Rattle.search.proofs.NewestLaws.{reach-swap, swap-early, swap-begin}
 use Rattle.look.proofs.StepLaws.{same-tables, tables-same, same-ready, same-lists}
 
 --------------------------------------------------------------------------------
 -- The queue
-
-pub newest-of :
-    {sh : Shape} {t m t′ : List ℕ} {h n a b : ℕ} → a ≡ queueOf sh t h → b ≡ queueOf sh t (n - 1) → Put sh t m queues (n - 1) a →
-    Put sh m t′ queues h b → Newest sh t t′ h n b
-newest-of {sh} {t} {m} {t′} {h} {n} {a} {b} i j P Q = record {
-  only = keeps-then (put-keeps refl P) (put-keeps refl Q);
-  taken = sym (Q .puts .here);
-  here = Q .puts .here ∙ j;
-  there =
-      ⊎-elim
-      (λ w. w .1 ∙ j ∙ ap (queueOf sh t) (w .0))
-      (λ w. w .1 ∙ P .puts .here ∙ i)
-      (puts-at (Q .puts) (n - 1));
-  else = λ k c d. Q .puts .else k c ∙ P .puts .else k d;
-}
-
-pub next-taken : {sh : Shape} {t t′ : List ℕ} {h n u : ℕ} → Next sh t t′ h n u → u ≡ queueOf sh t′ h
-next-taken {sh} {t} {t′} {h} {n} {u} N =
-    ⊎-elim
-    (λ (M : Newest sh t t′ h n u). M .taken)
-    (λ (M : (t′ ≡ t) × (u ≡ queueOf sh t h)). M .1 ∙ ap (λ (x : List ℕ). queueOf sh x h) (sym (M .0)))
-    N
 
 -- n nodes are reached, and the first h of them are done
 pub record Going (sh : Shape) (back : Bool) (ch sheet t₀ t : List ℕ) (n h : ℕ) : Type 0 where
@@ -57,7 +33,6 @@ pub record Going (sh : Shape) (back : Bool) (ch sheet t₀ t : List ℕ) (n h : 
   pub begin : queueOf sh t 0 ≡ queueOf sh t₀ 0
   pub spread : Spread (sh .fresh) (labelOf sh t₀) (labelOf sh t)
   pub high : h ≤ n
-  pub one : h ≡ 0 → n ≡ 1
   pub done : (i : ℕ) → i < h → Done back (residualOf sh sheet t₀) (keptOf ch) (spareOf sh t₀) (sh .fresh) (labelOf sh t) (queueOf sh t i)
 
 module _ {sh : Shape} {back : Bool} {ch sheet t₀ : List ℕ} {target : ℕ} (B : Seeded sh back ch sheet t₀ target) where
@@ -68,7 +43,6 @@ module _ {sh : Shape} {back : Bool} {ch sheet t₀ : List ℕ} {target : ℕ} (B
     begin = refl;
     spread = spread-none (sh .fresh) (labelOf sh t₀);
     high = omega arith;
-    one = λ e. refl;
     done = λ i l. absurd (omega arith);
   }
 
@@ -78,35 +52,6 @@ module _ {sh : Shape} {back : Bool} {ch sheet t₀ : List ℕ} {target : ℕ} (B
 
     pub going-room : Room sh t
     going-room = room-keeps (W .only .long) (B .ready .buffers .room)
-
-    pub going-queued : Queued sh t n
-    going-queued = record { room = going-room; most = going-most; node = W .reach .node }
-
-    pub going-newest : {t′ : List ℕ} {u : ℕ} → h < n → Newest sh t t′ h n u → Going sh back ch sheet t₀ t′ n h
-    going-newest {t′} {u} l N =
-        let q : ℕ → ℕ = queueOf sh t in
-        let q′ : ℕ → ℕ = queueOf sh t′ in
-        let same : labelOf sh t′ ≡ labelOf sh t = N .only .rest labels (λ e. omega arith) in
-        let R = reach-swap q q′ h n l (W .one) (N .here) (N .there) (N .else) (W .reach) in
-        record {
-          only = keeps-then (W .only) (keeps-more (λ k e. omega arith) (N .only));
-          reach =
-              subst (λ (f : ℕ → ℕ). Reach back (residualOf sh sheet t₀) (keptOf ch) (spareOf sh t₀) (predIn (sh .fresh) f) q′ h n) (sym same) R;
-          begin = swap-begin q q′ h n l (W .one) (N .here) (N .there) (N .else) ∙ W .begin;
-          spread = subst (λ (f : ℕ → ℕ). Spread (sh .fresh) (labelOf sh t₀) f) (sym same) (W .spread);
-          high = W .high;
-          one = W .one;
-          done = λ i m.
-              subst (λ (f : ℕ → ℕ). Done back (residualOf sh sheet t₀) (keptOf ch) (spareOf sh t₀) (sh .fresh) f (q′ i)) (sym same)
-              (rw (swap-early q q′ h n l (W .one) (N .here) (N .there) (N .else) i m) (W .done i m));
-        }
-
-    pub going-taken : {t′ : List ℕ} {u : ℕ} → h < n → Next sh t t′ h n u → Going sh back ch sheet t₀ t′ n h
-    going-taken {t′} {u} l N =
-        ⊎-elim
-        (λ (M : Newest sh t t′ h n u). going-newest l M)
-        (λ (M : (t′ ≡ t) × (u ≡ queueOf sh t h)). subst (λ (x : List ℕ). Going sh back ch sheet t₀ x n h) (sym (M .0)) W)
-        N
 
     pub going-open : {u : ℕ} → h < n → u ≡ queueOf sh t h → Open sh back ch sheet t u h n
     going-open l i = record {
@@ -141,7 +86,6 @@ module _ {sh : Shape} {back : Bool} {ch sheet t₀ : List ℕ} {target : ℕ} (B
           begin = G .keep 0 (omega arith) ∙ W .begin;
           spread = spread-then b (labelOf sh t₀) (labelOf sh t) (labelOf sh t′) (W .spread) (G .spread);
           high = omega (arith, G .grow);
-          one = λ e. absurd (omega arith);
           done = λ j m e v A.
               elim (ℕ-discrete j h) [
                 | yes k ↦ D e v (le-refl e) (rw (sym i) at (rw (ap (queueOf sh t′) k ∙ G .keep h l) at A))

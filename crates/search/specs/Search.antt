@@ -7,8 +7,6 @@
 --   Scanned sh back ch sheet t t′ u h n n′ P  no step by an arc of P from u leads to a fresh node
 --   Rising sh back u b e       e is the arc of a step from u to its parent, and b holds
 --   Every e                    e is any arc
---   Newest sh t t′ h n r       the nodes in place h and in the last of n places of the queue were swapped, and r is now in place h
---   Next sh t t′ h n r         so, or nothing changed; r is now in place h
 --   Seeded sh back ch sheet t target   what the queue asks; against the arcs the source is not fresh, and it is not reached
 --   Asked sh ch sheet t start target   what a search asks: the start is fresh, and no node is reached. Where the target is not fresh,
 --                              it is not reached, and the search goes to its end
@@ -88,17 +86,6 @@ module _ (sh : Shape) (back : Bool) (ch sheet t : List ℕ) where
 -- a search along open arcs
 abbrev pub Searched : Shape → List ℕ → List ℕ → List ℕ → List ℕ → ℕ → ℕ → ℕ → Type 0
 Searched sh ch sheet t t′ start target n = SearchedBy sh false ch sheet t t′ start target n
-
-pub record Newest (sh : Shape) (t t′ : List ℕ) (h n r : ℕ) : Type 0 where
-  pub only : Keeps sh (λ l. l ≡ queues) t t′
-  pub taken : r ≡ queueOf sh t′ h
-  pub here : queueOf sh t′ h ≡ queueOf sh t (n - 1)
-  pub there : queueOf sh t′ (n - 1) ≡ queueOf sh t h
-  pub else : (i : ℕ) → i ≢ h → i ≢ n - 1 → queueOf sh t′ i ≡ queueOf sh t i
-
--- the newest node was brought to place h, or the one that stood there is taken
-abbrev pub Next : Shape → List ℕ → List ℕ → ℕ → ℕ → ℕ → Type 0
-Next sh t t′ h n r = Newest sh t t′ h n r ⊎ ((t′ ≡ t) × (r ≡ queueOf sh t h))
 
 pub record QueuedIn (sh : Shape) (t : List ℕ) (queue : ℕ → ℕ) (n : ℕ) : Type 0 where
   pub room : Room sh t

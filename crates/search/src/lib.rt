@@ -1,117 +1,21 @@
-// The search: which fresh nodes can be reached from a start by open arcs, or from which the start can be reached. It changes label and
-// queue alone.
-//
-// A step goes along an open arc, or against it where `back` holds. What looks along one arc has the direction as a parameter; the loops
-// through the queue and through the items of a node are written for each of them, so that no test of the direction is left in them.
+// The search: from which fresh nodes a start can be reached by open arcs. It changes label and queue alone. Labels are given here too.
 mod scan;
 
 ghost use mathlib.Core.Logic.{_≢_};
-ghost use mathlib.Core.Bool.{true, false};
+ghost use mathlib.Core.Bool.{true};
 ghost use Prim.Native.Nat.{_+_, _<_};
 ghost use Rattle.theory.specs.Bounds.{cellBound};
 ghost use Rattle.scratch.specs.Memory.{memory};
 ghost use Rattle.scratch.specs.Map.{labelOf, queueOf, Room};
-ghost use Rattle.search.specs.Search.{Newest, Next, Seeded, Asked, Searched, SearchedBy, Queued, QueuedIn, Relabelled, RelabelledIn, fromLast, Refreshed};
+ghost use Rattle.search.specs.Search.{Seeded, Asked, SearchedBy, Queued, QueuedIn, Relabelled, RelabelledIn, fromLast, Refreshed};
 use entries::label;
 use entries::queue;
 use entries::set_label;
-use entries::set_queue;
 use look::reach;
 use scan::scan_in;
-use scan::scan_out;
 use scratch::Shape;
 
-// Brings the last of n nodes of the queue to place h, for the one that stood there. The answer is that node.
-fn newest(
-    sh: Shape,
-    h: usize,
-    n: usize,
-    wide: bool,
-    scratch: &mut [u32],
-    scratch64: &mut [u64],
-) -> usize
-    requires { ⌜ Queued sh (memory wide (now scratch) (now scratch64)) n ⌝ }
-    requires { ⌜ h < n ⌝ }
-    ensures { λ r.
-        let scratch₀ = memory wide (now (scratch .entry)) (now (scratch64 .entry)) in
-        let scratch′ = memory wide (now (scratch .exit)) (now (scratch64 .exit)) in
-        ⌜ Newest sh scratch₀ scratch′ h n r ⌝ }
-{
-    let was = queue(sh, h, wide, scratch, scratch64);
-    let last = queue(sh, n - 1, wide, scratch, scratch64);
-    set_queue(sh, n - 1, was, wide, scratch, scratch64);
-    set_queue(sh, h, last, wide, scratch, scratch64);
-    last
-}
-
-// The node to go on from, in place h of n nodes of the queue: the newest one while all rows are free, so that a way to the sink is found
-// early; else the one that stands there, so that the way of an exchange is short.
-fn take_next(
-    sh: Shape,
-    h: usize,
-    n: usize,
-    wide: bool,
-    scratch: &mut [u32],
-    scratch64: &mut [u64],
-) -> usize
-    requires { ⌜ Queued sh (memory wide (now scratch) (now scratch64)) n ⌝ }
-    requires { ⌜ h < n ⌝ }
-    ensures { λ r.
-        let scratch₀ = memory wide (now (scratch .entry)) (now (scratch64 .entry)) in
-        let scratch′ = memory wide (now (scratch .exit)) (now (scratch64 .exit)) in
-        ⌜ Next sh scratch₀ scratch′ h n r ⌝ }
-{
-    let free = sh.free;
-    if free > 0 {
-        return queue(sh, h, wide, scratch, scratch64);
-    }
-    newest(sh, h, n, wide, scratch, scratch64)
-}
-
 // Goes through the queue until the label of the target changes or the queue ends. The answer is how many nodes are reached.
-fn spread_out(
-    sh: Shape,
-    target: usize,
-    choice: &[u8],
-    wide: bool,
-    sheet: &[u32],
-    sheet64: &[u64],
-    scratch: &mut [u32],
-    scratch64: &mut [u64],
-) -> usize
-    requires { ⌜ Seeded sh false (now choice) (memory wide (now sheet) (now sheet64)) (memory wide (now scratch) (now scratch64)) target ⌝ }
-    ensures { λ r.
-        let sheet₀ = memory wide (now (sheet .entry)) (now (sheet64 .entry)) in
-        let scratch₀ = memory wide (now (scratch .entry)) (now (scratch64 .entry)) in
-        let scratch′ = memory wide (now (scratch .exit)) (now (scratch64 .exit)) in
-        ⌜ Searched sh (now (choice .entry)) sheet₀ scratch₀ scratch′ (queueOf sh scratch₀ 0) target r ⌝ }
-{
-    let was = label(sh, target, wide, scratch, scratch64);
-    let mut n: usize = 1;
-    let mut h: usize = 0;
-    while h < n {
-        if label(sh, target, wide, scratch, scratch64) != was {
-            return n;
-        }
-        let u = take_next(sh, h, n, wide, scratch, scratch64);
-        n = scan_out(
-            sh,
-            u,
-            h,
-            n,
-            choice,
-            wide,
-            sheet,
-            sheet64,
-            scratch,
-            scratch64,
-        );
-        h += 1;
-    }
-    n
-}
-
-// The same against open arcs.
 fn spread_in(
     sh: Shape,
     target: usize,
@@ -136,7 +40,7 @@ fn spread_in(
         if label(sh, target, wide, scratch, scratch64) != was {
             return n;
         }
-        let u = take_next(sh, h, n, wide, scratch, scratch64);
+        let u = queue(sh, h, wide, scratch, scratch64);
         n = scan_in(
             sh,
             u,
@@ -154,35 +58,9 @@ fn spread_in(
     n
 }
 
-// Searches open arcs from the start until the target is reached or no arc is left; where the target is not fresh, to the end. The answer is
-// how many nodes are reached.
-pub fn search(
-    sh: Shape,
-    start: usize,
-    target: usize,
-    choice: &[u8],
-    wide: bool,
-    sheet: &[u32],
-    sheet64: &[u64],
-    scratch: &mut [u32],
-    scratch64: &mut [u64],
-) -> usize
-    requires { ⌜ Asked sh (now choice) (memory wide (now sheet) (now sheet64)) (memory wide (now scratch) (now scratch64)) start target ⌝ }
-    ensures { λ r.
-        let sheet₀ = memory wide (now (sheet .entry)) (now (sheet64 .entry)) in
-        let scratch₀ = memory wide (now (scratch .entry)) (now (scratch64 .entry)) in
-        let scratch′ = memory wide (now (scratch .exit)) (now (scratch64 .exit)) in
-        ⌜ Searched sh (now (choice .entry)) sheet₀ scratch₀ scratch′ start target r ⌝ }
-{
-    let g = sh.groups;
-    let rows = sh.rows;
-    // the start is reached by a number that no arc has
-    reach(sh, start, 2 * g + rows, 0, wide, scratch, scratch64);
-    spread_out(sh, target, choice, wide, sheet, sheet64, scratch, scratch64)
-}
-
-// The same against open arcs: the nodes that it reaches are those that lead to the start. The source is not fresh: it is not gone on
-// from, and its list may be short.
+// Searches against open arcs from the start until the target is reached or no arc is left; where the target is not fresh, to the end. The
+// nodes that it reaches are those that lead to the start. The answer is how many there are. The source is not fresh: it is not gone on from,
+// and its list may be short.
 pub fn search_back(
     sh: Shape,
     start: usize,
@@ -204,6 +82,7 @@ pub fn search_back(
 {
     let g = sh.groups;
     let rows = sh.rows;
+    // the start is reached by a number that no arc has
     reach(sh, start, 2 * g + rows, 0, wide, scratch, scratch64);
     spread_in(sh, target, choice, wide, sheet, sheet64, scratch, scratch64)
 }

@@ -1,8 +1,6 @@
-// All steps from one node. The arcs out of a node are looked along in such an order that the way to the other side of the network comes
-// last at a card node, and the way up comes last at a shop node: most paths from the source to the sink are found early so, where the
-// newest node is gone on from first.
+// All steps from one node, against the arcs.
 ghost use mathlib.Core.Path.{_≡_};
-ghost use mathlib.Core.Bool.{true, false};
+ghost use mathlib.Core.Bool.{true};
 ghost use Prim.Native.Nat.{_+_, _<_};
 ghost use Rattle.scratch.specs.Memory.{memory};
 ghost use Rattle.scratch.specs.View.{residualOf};
@@ -14,51 +12,7 @@ use look::look_up;
 use residual::lists::after;
 use scratch::Shape;
 
-// Looks along the items of node u, which stands in place h of the queue.
-fn items_out(
-    sh: Shape,
-    u: usize,
-    h: usize,
-    n: usize,
-    choice: &[u8],
-    wide: bool,
-    sheet: &[u32],
-    sheet64: &[u64],
-    scratch: &mut [u32],
-    scratch64: &mut [u64],
-) -> usize
-    requires { ⌜ Open sh false (now choice) (memory wide (now sheet) (now sheet64)) (memory wide (now scratch) (now scratch64)) u h n ⌝ }
-    ensures { λ r.
-        let sheet₀ = memory wide (now (sheet .entry)) (now (sheet64 .entry)) in
-        let scratch₀ = memory wide (now (scratch .entry)) (now (scratch64 .entry)) in
-        let scratch′ = memory wide (now (scratch .exit)) (now (scratch64 .exit)) in
-        ⌜ Scanned sh false (now (choice .entry)) sheet₀ scratch₀ scratch′ u h n r (ItemArc (residualOf sh sheet₀ scratch₀) false u) ⌝ }
-{
-    let g = sh.groups;
-    let rows = sh.rows;
-    let end = rows + g;
-    let mut j = first(sh, u, wide, scratch, scratch64);
-    let mut k = n;
-    while j < end {
-        k = look_item(
-            sh,
-            false,
-            u,
-            j,
-            k,
-            choice,
-            wide,
-            sheet,
-            sheet64,
-            scratch,
-            scratch64,
-        );
-        j = after(sh, u, j, wide, sheet, sheet64, scratch, scratch64);
-    }
-    k
-}
-
-// Looks against the items of node u, in the same way.
+// Looks against the items of node u, which stands in place h of the queue.
 fn items_in(
     sh: Shape,
     u: usize,
@@ -142,73 +96,8 @@ fn look_above(
     n
 }
 
-// Looks along all arcs out of node u, which stands in place h of the queue: its items, and its up arc, at a card before them and at a
+// Looks against all arcs into node u, which stands in place h of the queue: its items, and its up arc, at a card before them and at a
 // shop after them.
-pub fn scan_out(
-    sh: Shape,
-    u: usize,
-    h: usize,
-    n: usize,
-    choice: &[u8],
-    wide: bool,
-    sheet: &[u32],
-    sheet64: &[u64],
-    scratch: &mut [u32],
-    scratch64: &mut [u64],
-) -> usize
-    requires { ⌜ Open sh false (now choice) (memory wide (now sheet) (now sheet64)) (memory wide (now scratch) (now scratch64)) u h n ⌝ }
-    ensures { λ r.
-        let sheet₀ = memory wide (now (sheet .entry)) (now (sheet64 .entry)) in
-        let scratch₀ = memory wide (now (scratch .entry)) (now (scratch64 .entry)) in
-        let scratch′ = memory wide (now (scratch .exit)) (now (scratch64 .exit)) in
-        ⌜ Scanned sh false (now (choice .entry)) sheet₀ scratch₀ scratch′ u h n r Every ⌝ }
-{
-    let cards = sh.cards;
-    let g = sh.groups;
-    let k = look_above(
-        sh,
-        false,
-        u,
-        h,
-        n,
-        u < cards,
-        choice,
-        wide,
-        sheet,
-        sheet64,
-        scratch,
-        scratch64,
-    );
-    let m = items_out(
-        sh,
-        u,
-        h,
-        k,
-        choice,
-        wide,
-        sheet,
-        sheet64,
-        scratch,
-        scratch64,
-    );
-    let rises = (cards <= u) & (u < g);
-    look_above(
-        sh,
-        false,
-        u,
-        h,
-        m,
-        rises,
-        choice,
-        wide,
-        sheet,
-        sheet64,
-        scratch,
-        scratch64,
-    )
-}
-
-// Looks against all arcs into node u, in the same order.
 pub fn scan_in(
     sh: Shape,
     u: usize,

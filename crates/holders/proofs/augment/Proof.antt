@@ -1,51 +1,60 @@
--- While n is 0 the next search may begin, and once it is not there is no path (`Going`). Each path keeps one row more.
+-- While `more` holds the next round may begin, and once it does not there is no path (`Going`). Each round but the last keeps more rows.
+use borrow.Author.Needs.{needs}
 use mathlib.Core.Path.{_≡_, _∙_, refl}
 use lib.ListN.{length}
-use native.Mathlib.Omega.{arith}
-use borrow.Author.Needs.{needs}
 use Rattle.scratch.specs.Memory.{memory}
-use Rattle.solver.proofs.TollLaws.{running-seeking}
-use Rattle.holders.proofs.FindLaws.{Going, left, going-start, going-next, going-less}
+use Rattle.walks.proofs.RoundLaws.{toGo}
+use Rattle.solver.proofs.TollLaws.{running-begun}
+use Rattle.holders.proofs.FindLaws.{Going, going-start, going-next, going-less}
 use Rattle.holders.proofs.augment.Statement.{statement}
 use Rattle.holders.proofs.augment.Tie as tie
 
 abbrev Inv-loop : tie.InvT-loop
-Inv-loop sh choice₀ wide sheet sheet64 scratch₀ scratch64₀ source sink n₀ choice scratch scratch64 n =
-    Going sh choice₀ (memory wide sheet sheet64) (memory wide scratch₀ scratch64₀) choice (memory wide scratch scratch64) n
+Inv-loop sh choice₀ wide sheet sheet64 scratch₀ scratch64₀ more₀ choice scratch scratch64 more =
+    Going sh choice₀ (memory wide sheet sheet64) (memory wide scratch₀ scratch64₀) choice (memory wide scratch scratch64) more
     × ((length scratch ≡ length scratch₀) × (length scratch64 ≡ length scratch64₀))
 
 abbrev μ-loop : tie.MeasureT-loop
-μ-loop sh choice₀ wide sheet sheet64 scratch₀ scratch64₀ source sink n₀ choice scratch scratch64 n = left sh choice n
+μ-loop sh choice₀ wide sheet sheet64 scratch₀ scratch64₀ more₀ choice scratch scratch64 more = toGo sh choice more
 
-abbrev tried : tie.After-slice-known6 Inv-loop μ-loop → tie.After-try-path Inv-loop μ-loop
-tried c = c .before .before .before .before .before .before
+-- the places: `to-x` is the one behind x, seen from where a question is asked; `x-y` the one behind y, seen from that behind x
+abbrev to-entry : tie.After-slice-known3 Inv-loop μ-loop → tie.Start Inv-loop μ-loop
+to-entry c = c .before .before .before .before .before
 
-add-sink : tie.Need-add-sink Inv-loop μ-loop
-add-sink c = search needs
+abbrev to-turn-more : tie.After-slice-known6 Inv-loop μ-loop → tie.After-turn-more Inv-loop μ-loop
+to-turn-more c = c .before .before .before .before .before .before
+
+abbrev turn-more-turn : tie.After-turn-more Inv-loop μ-loop → tie.In-loop Inv-loop μ-loop
+turn-more-turn c = c .before .before .before .before
 
 loop-holds : tie.Need-loop-holds Inv-loop μ-loop
-loop-holds c = (going-start (c .before .before .before .before .before .pre), (refl, refl))
+loop-holds c =
+    let entry = to-entry c in
+    (going-start (search needs) (entry .pre), (refl, refl))
 
-try-path-requires : tie.Need-try-path-requires Inv-loop μ-loop
-try-path-requires c κs =
-    let test = c .before .before .before in
-    running-seeking (test .before .loop .inv .0 .more (omega (arith, test .loop-test .taken)) .running)
+turn-more-requires : tie.Need-turn-more-requires Inv-loop μ-loop
+turn-more-requires c κs =
+    let turn = c .before .before .before in
+    let at-loop = turn .before in
+    running-begun (at-loop .loop .inv .0 .more (turn .loop-test .taken) .running)
 
 loop-less : tie.Need-loop-less Inv-loop μ-loop
 loop-less c =
-    let last = tried c in
-    let test = last .before .before .before .before in
-    going-less (test .before .loop .inv .0) (omega (arith, test .loop-test .taken)) (last .try-path .ensures)
+    let at-turn-more = to-turn-more c in
+    let turn = turn-more-turn at-turn-more in
+    let at-loop = turn .before in
+    going-less (at-loop .loop .inv .0) (turn .loop-test .taken) (at-turn-more .turn-more .ensures)
 
 loop-again : tie.Need-loop-again Inv-loop μ-loop
 loop-again c =
-    let last = tried c in
-    let test = last .before .before .before .before in
-    let inv = test .before .loop .inv in (
-      going-next (inv .0) (omega (arith, test .loop-test .taken)) (last .try-path .ensures) (last .try-path .kept .1 .1 .1 .0),
+    let at-turn-more = to-turn-more c in
+    let turn = turn-more-turn at-turn-more in
+    let at-loop = turn .before in (
+      going-next (at-loop .loop .inv .0) (turn .loop-test .taken) (at-turn-more .turn-more .ensures)
+          (at-turn-more .turn-more .kept .1 .0),
       (
-        last .try-path .kept .1 .1 .1 .1 .1 .1 .1 .0 ∙ inv .1 .0,
-        last .try-path .kept .1 .1 .1 .1 .1 .1 .1 .1 .0 ∙ inv .1 .1,
+        at-turn-more .turn-more .kept .1 .1 .1 .1 .1 .0 ∙ at-loop .loop .inv .1 .0,
+        at-turn-more .turn-more .kept .1 .1 .1 .1 .1 .1 .0 ∙ at-loop .loop .inv .1 .1,
       ),
     )
 
@@ -59,7 +68,7 @@ same-length-3 : tie.Need-same-length-3 Inv-loop μ-loop
 same-length-3 c = c .before .loop .inv .1 .1
 
 returns : tie.Need-returns Inv-loop μ-loop
-returns c = c .before .loop .inv .0 .end (omega (arith, c .loop-test .left))
+returns c = c .before .loop .inv .0 .end (c .loop-test .left)
 
 pub augment-spec : {M : Type 1} → statement M
 augment-spec =
@@ -67,9 +76,8 @@ augment-spec =
     (tie.spec
     Inv-loop
     μ-loop
-    add-sink
     loop-holds
-    try-path-requires
+    turn-more-requires
     loop-less
     loop-again
     same-length

@@ -1,33 +1,33 @@
 -- The start keeps some earned rows; paths are turned until there is none; then the two labels are given, and the codes read off.
 use mathlib.Core.Path.{_∙_}
 use native.Mathlib.Omega.{arith}
-use borrow.Author.Needs.{needs}
-use Rattle.holders.proofs.FindLaws.{ended-queued, source-labelled}
+use Rattle.holders.proofs.FindLaws.{source-labelled}
 use Rattle.holders.proofs.FoundLaws.{labels-found}
+use borrow.Author.Needs.{needs}
 use Rattle.holders.proofs.find_codes.Statement.{statement}
 use Rattle.holders.proofs.find_codes.Tie as tie
 
--- the places behind the calls: `at-` from the one behind the next call, `to-` from that of a question
-abbrev to-augment : tie.After-relabel-arg2 → tie.After-augment
+-- the places: `to-x` is the one behind x, seen from where a question is asked; `x-y` the one behind y, seen from that behind x
+abbrev to-augment : tie.After-label-source-arg2 → tie.After-augment
 to-augment c = c .before .before .before .before .before .before .before .before
 
-abbrev at-start : tie.After-augment → tie.After-start
-at-start c = c .before .before .before .before .before .before .before .before .before .before .before .before .before .before .before .before
+abbrev to-label-source : tie.After-label-sink-arg5 → tie.After-label-source
+to-label-source c = c .before .before .before .before .before .before .before .before .before
 
-abbrev at-entry : tie.After-start → tie.Start
-at-entry c = c .before .before .before .before .before .before .before .before .before .before .before
+abbrev label-source-augment : tie.After-label-source → tie.After-augment
+label-source-augment c = c .before .before .before .before .before .before .before .before .before
 
-abbrev to-relabel : tie.After-label-sink-arg5 → tie.After-relabel
-to-relabel c = c .before .before .before .before .before .before .before .before .before
+abbrev augment-start : tie.After-augment → tie.After-start
+augment-start c = c .before .before .before .before .before .before .before .before .before .before .before .before .before .before .before .before
 
-abbrev at-augment : tie.After-relabel → tie.After-augment
-at-augment c = c .before .before .before .before .before .before .before .before .before
+abbrev start-entry : tie.After-start → tie.Start
+start-entry c = c .before .before .before .before .before .before .before .before .before .before .before
 
-abbrev at-label-sink : tie.After-put-codes → tie.After-label-sink
-at-label-sink c = c .before .before .before .before .before .before .before .before
+abbrev put-codes-label-sink : tie.After-put-codes → tie.After-label-sink
+put-codes-label-sink c = c .before .before .before .before .before .before .before .before
 
-abbrev at-relabel : tie.After-label-sink → tie.After-relabel
-at-relabel c = c .before .before .before .before .before .before .before .before .before .before
+abbrev label-sink-label-source : tie.After-label-sink → tie.After-label-source
+label-sink-label-source c = c .before .before .before .before .before .before .before .before .before .before
 
 abbrev to-label-sink : tie.After-slice-known18 → tie.After-label-sink
 to-label-sink c = c .before .before .before .before .before .before .before .before .before .before
@@ -38,61 +38,72 @@ start-requires c κs = search needs
 augment-requires : tie.Need-augment-requires
 augment-requires c κs = search needs
 
-relabel-requires : tie.Need-relabel-requires
-relabel-requires c κs =
-    let augmented = to-augment c in
-    let started = at-start augmented in
-    let begin = at-entry started in
-    (ended-queued (augmented .augment .ensures .ended) (begin .pre .fresh), omega arith)
+label-source-requires : tie.Need-label-source-requires
+label-source-requires c κs =
+    let at-augment = to-augment c in
+    at-augment .augment .ensures .ended .state .room
 
 label-sink-requires : tie.Need-label-sink-requires
 label-sink-requires c κs =
-    let named = to-relabel c in
-    let augmented = at-augment named in
-    let started = at-start augmented in
-    let begin = at-entry started in
-    source-labelled (augmented .augment .ensures .ended) (begin .pre .fresh) (named .relabel .ensures)
-    (λ v. omega (arith, started .start .ensures .range v))
+    let at-label-source = to-label-source c in
+    let at-augment = label-source-augment at-label-source in
+    let at-start = augment-start at-augment in
+    let entry = start-entry at-start in
+    source-labelled (at-augment .augment .ensures .ended) (entry .pre .fresh) (at-label-source .label-source .ensures)
+    (λ v. omega (arith, at-start .start .ensures .range v))
 
 put-codes-requires : tie.Need-put-codes-requires
 put-codes-requires c κs = search needs
 
 same-length : tie.Need-same-length
 same-length c =
-    let put = c .before .before in
-    let augmented = at-augment (at-relabel (at-label-sink put)) in
-    let started = at-start augmented in
-    put .put-codes .ensures .long ∙ augmented .augment .kept .1 .0 ∙ started .start .kept .1 .0
+    let at-put-codes = c .before .before in
+    let at-augment = label-source-augment (label-sink-label-source (put-codes-label-sink at-put-codes)) in
+    let at-start = augment-start at-augment in
+    at-put-codes .put-codes .ensures .long ∙ at-augment .augment .kept .1 .0 ∙ at-start .start .kept .1 .0
 
 same-length-2 : tie.Need-same-length-2
-same-length-2 c = at-start (at-augment (at-relabel (to-label-sink c))) .start .kept .1 .1 .1 .0
+same-length-2 c =
+    let at-start = augment-start (label-source-augment (label-sink-label-source (to-label-sink c))) in
+    at-start .start .kept .1 .1 .1 .0
 
 same-length-3 : tie.Need-same-length-3
-same-length-3 c = at-start (at-augment (at-relabel (to-label-sink c))) .start .kept .1 .1 .1 .1 .0
+same-length-3 c =
+    let at-start = augment-start (label-source-augment (label-sink-label-source (to-label-sink c))) in
+    at-start .start .kept .1 .1 .1 .1 .0
 
 same-length-4 : tie.Need-same-length-4
 same-length-4 c =
-    to-label-sink c .label-sink .kept .1 .1 .1 .1 .1 .0
-    ∙ at-relabel (to-label-sink c) .relabel .kept .1 .1 .1 .1 .0
-    ∙ at-augment (at-relabel (to-label-sink c)) .augment .kept .1 .1 .1 .1 .1 .0
-    ∙ at-start (at-augment (at-relabel (to-label-sink c))) .start .kept .1 .1 .1 .1 .1 .0
+    let at-label-sink = to-label-sink c in
+    let at-label-source = label-sink-label-source at-label-sink in
+    let at-augment = label-source-augment at-label-source in
+    let at-start = augment-start at-augment in
+    at-label-sink .label-sink .kept .1 .1 .1 .1 .1 .0
+    ∙ at-label-source .label-source .kept .1 .1 .0
+    ∙ at-augment .augment .kept .1 .1 .1 .1 .1 .0
+    ∙ at-start .start .kept .1 .1 .1 .1 .1 .0
 
 same-length-5 : tie.Need-same-length-5
 same-length-5 c =
-    to-label-sink c .label-sink .kept .1 .1 .1 .1 .1 .1 .0
-    ∙ at-relabel (to-label-sink c) .relabel .kept .1 .1 .1 .1 .1 .0
-    ∙ at-augment (at-relabel (to-label-sink c)) .augment .kept .1 .1 .1 .1 .1 .1 .0
-    ∙ at-start (at-augment (at-relabel (to-label-sink c))) .start .kept .1 .1 .1 .1 .1 .1 .0
+    let at-label-sink = to-label-sink c in
+    let at-label-source = label-sink-label-source at-label-sink in
+    let at-augment = label-source-augment at-label-source in
+    let at-start = augment-start at-augment in
+    at-label-sink .label-sink .kept .1 .1 .1 .1 .1 .1 .0
+    ∙ at-label-source .label-source .kept .1 .1 .1 .0
+    ∙ at-augment .augment .kept .1 .1 .1 .1 .1 .1 .0
+    ∙ at-start .start .kept .1 .1 .1 .1 .1 .1 .0
 
 returns : tie.Need-returns
 returns c =
-    let put = c .before .before in
-    let labelled = at-label-sink put in
-    let named = at-relabel labelled in
-    let augmented = at-augment named in
-    let started = at-start augmented in
-    labels-found (started .start .ensures) (augmented .augment .ensures) (named .relabel .ensures) (labelled .label-sink .ensures)
-    (put .put-codes .ensures) _ (augmented .augment .kept .1 .0 ∙ started .start .kept .1 .0)
+    let at-put-codes = c .before .before in
+    let at-label-sink = put-codes-label-sink at-put-codes in
+    let at-label-source = label-sink-label-source at-label-sink in
+    let at-augment = label-source-augment at-label-source in
+    let at-start = augment-start at-augment in
+    labels-found (at-start .start .ensures) (at-augment .augment .ensures) (at-label-source .label-source .ensures)
+    (at-label-sink .label-sink .ensures) (at-put-codes .put-codes .ensures) _
+    (at-augment .augment .kept .1 .0 ∙ at-start .start .kept .1 .0)
 
 pub find-codes-spec : {M : Type 1} → statement M
 find-codes-spec =
@@ -100,7 +111,7 @@ find-codes-spec =
     (tie.spec
     start-requires
     augment-requires
-    relabel-requires
+    label-source-requires
     label-sink-requires
     put-codes-requires
     same-length

@@ -1,41 +1,44 @@
 -- The step gives a state at the lower toll (`stepped-state`), the filling keeps it, and the lists are those of its prices.
-use Prim.Native.Nat.{ℕ}
-use mathlib.Core.List.{List}
-use Rattle.scratch.specs.Memory.{memory}
-use borrow.Author.Needs.{needs}
-use mathlib.Core.Path.{refl, _∙_}
-use native.Mathlib.Omega.{arith}
+use mathlib.Core.Path.{_∙_}
 use Rattle.prices.proofs.ReadyLaws.{state-linkable}
-use Rattle.moves.proofs.PathLaws.{queued-reach}
 use Rattle.solver.proofs.TollLaws.{stepped-state, moved-step}
+use borrow.Author.Needs.{needs}
 use Rattle.solver.proofs.next_toll.Statement.{statement}
 use Rattle.solver.proofs.next_toll.Tie as tie
 
--- the memory at entry
-abbrev sheet₀ : tie.Start → List ℕ
-sheet₀ S = memory (S .args .wide) (S .args .sheet .now) (S .args .sheet64 .now)
+-- the places: `to-x` is the one behind x, seen from where a question is asked; `x-y` the one behind y, seen from that behind x
+abbrev to-reprice : tie.After-refresh-arg2 → tie.After-reprice
+to-reprice c = c .before .before .before .before .before .before
 
-abbrev scratch₀ : tie.Start → List ℕ
-scratch₀ S = memory (S .args .wide) (S .args .scratch .now) (S .args .scratch64 .now)
+abbrev reprice-entry : tie.After-reprice → tie.Start
+reprice-entry c = c .before .before .before .before .before .before .before .before .before .before .before
 
--- the places behind the calls: `at-` from the one behind the next call, `to-` from that of a question
+abbrev to-with-toll : tie.After-fill-under-toll-arg5 → tie.After-with-toll
+to-with-toll c = c .before .before .before .before .before
+
+abbrev with-toll-refresh : tie.After-with-toll → tie.After-refresh
+with-toll-refresh c = c .before .before .before .before .before
+
+abbrev refresh-reprice : tie.After-refresh → tie.After-reprice
+refresh-reprice c = c .before .before .before .before .before .before .before
+
+abbrev to-fill-under-toll : tie.After-link-arg4 → tie.After-fill-under-toll
+to-fill-under-toll c = c .before .before .before .before .before .before .before .before .before .before
+
 abbrev to-link : tie.After-slice-known14 → tie.After-link
 to-link c = c .before .before .before .before
 
-abbrev at-fill-under-toll : tie.After-link → tie.After-fill-under-toll
-at-fill-under-toll c = c .before .before .before .before .before .before .before .before .before .before .before
+abbrev link-fill-under-toll : tie.After-link → tie.After-fill-under-toll
+link-fill-under-toll c = c .before .before .before .before .before .before .before .before .before .before .before
 
-abbrev at-with-toll : tie.After-fill-under-toll → tie.After-with-toll
-at-with-toll c = c .before .before .before .before .before .before
+abbrev fill-under-toll-with-toll : tie.After-fill-under-toll → tie.After-with-toll
+fill-under-toll-with-toll c = c .before .before .before .before .before .before
 
-abbrev at-relabel : tie.After-with-toll → tie.After-relabel
-at-relabel c = c .before .before .before .before .before
+abbrev with-toll-reprice : tie.After-with-toll → tie.After-reprice
+with-toll-reprice c = c .before .before .before .before .before .before .before .before .before .before .before .before
 
-abbrev at-reprice : tie.After-relabel → tie.After-reprice
-at-reprice c = c .before .before .before .before .before .before .before
-
-abbrev at-entry : tie.After-reprice → tie.Start
-at-entry c = c .before .before .before .before .before .before .before .before .before .before .before
+abbrev fill-under-toll-refresh : tie.After-fill-under-toll → tie.After-refresh
+fill-under-toll-refresh c = c .before .before .before .before .before .before .before .before .before .before .before
 
 reprice-requires : tie.Need-reprice-requires
 reprice-requires c κs = search needs
@@ -43,58 +46,65 @@ reprice-requires c κs = search needs
 sub-rest : tie.Need-sub-rest
 sub-rest c = search needs
 
-relabel-requires : tie.Need-relabel-requires
-relabel-requires c κs =
-    let S = at-entry (c .before .before .before .before .before .before) in
-    let room = S .pre .cut .state .room in (
-      queued-reach (S .args .sh) (S .args .choice .now) (sheet₀ S) (scratch₀ S) (S .pre .reach) refl room,
-      omega (arith, room .few .fresh),
-    )
+refresh-requires : tie.Need-refresh-requires
+refresh-requires c κs =
+    let entry = reprice-entry (to-reprice c) in
+    entry .pre .state .room
 
 with-toll-requires : tie.Need-with-toll-requires
 with-toll-requires c κs = search needs
 
 fill-under-toll-requires : tie.Need-fill-under-toll-requires
 fill-under-toll-requires c κs =
-    let shaped = c .before .before .before .before .before in
-    let named = at-relabel shaped in
-    rw (shaped .with-toll .ensures)
-    (stepped-state (at-reprice named .reprice .ensures) (named .relabel .ensures))
+    let at-with-toll = to-with-toll c in
+    let at-refresh = with-toll-refresh at-with-toll in
+    let at-reprice = refresh-reprice at-refresh in
+    rw (at-with-toll .with-toll .ensures) (stepped-state (at-reprice .reprice .ensures) (at-refresh .refresh .ensures))
 
 link-requires : tie.Need-link-requires
 link-requires c κs =
-    let at-fill-under-toll = c .before .before .before .before .before .before .before .before .before .before in
+    let at-fill-under-toll = to-fill-under-toll c in
     state-linkable (at-fill-under-toll .fill-under-toll .ensures .filled .state)
 
 same-length : tie.Need-same-length
-same-length c = search needs
+same-length c =
+    let at-fill-under-toll = link-fill-under-toll (to-link c) in
+    at-fill-under-toll .fill-under-toll .kept .1 .0
 
 same-length-2 : tie.Need-same-length-2
-same-length-2 c = at-reprice (at-relabel (at-with-toll (at-fill-under-toll (to-link c)))) .reprice .kept .1 .1 .1 .0
+same-length-2 c =
+    let at-reprice = with-toll-reprice (fill-under-toll-with-toll (link-fill-under-toll (to-link c))) in
+    at-reprice .reprice .kept .1 .1 .1 .0
 
 same-length-3 : tie.Need-same-length-3
-same-length-3 c = at-reprice (at-relabel (at-with-toll (at-fill-under-toll (to-link c)))) .reprice .kept .1 .1 .1 .1 .0
+same-length-3 c =
+    let at-reprice = with-toll-reprice (fill-under-toll-with-toll (link-fill-under-toll (to-link c))) in
+    at-reprice .reprice .kept .1 .1 .1 .1 .0
 
 same-length-4 : tie.Need-same-length-4
 same-length-4 c =
-    to-link c .link .kept .1 .1 .1 .1 .0
-    ∙ at-fill-under-toll (to-link c) .fill-under-toll .kept .1 .1 .1 .1 .1 .0
-    ∙ at-relabel (at-with-toll (at-fill-under-toll (to-link c))) .relabel .kept .1 .1 .1 .1 .0
+    let at-link = to-link c in
+    let at-fill-under-toll = link-fill-under-toll at-link in
+    let at-refresh = fill-under-toll-refresh at-fill-under-toll in
+    at-link .link .kept .1 .1 .1 .1 .0 ∙ at-fill-under-toll .fill-under-toll .kept .1 .1 .1 .1 .1 .0
+    ∙ at-refresh .refresh .kept .1 .1 .0
 
 same-length-5 : tie.Need-same-length-5
 same-length-5 c =
-    to-link c .link .kept .1 .1 .1 .1 .1 .0
-    ∙ at-fill-under-toll (to-link c) .fill-under-toll .kept .1 .1 .1 .1 .1 .1 .0
-    ∙ at-relabel (at-with-toll (at-fill-under-toll (to-link c))) .relabel .kept .1 .1 .1 .1 .1 .0
+    let at-link = to-link c in
+    let at-fill-under-toll = link-fill-under-toll at-link in
+    let at-refresh = fill-under-toll-refresh at-fill-under-toll in
+    at-link .link .kept .1 .1 .1 .1 .1 .0 ∙ at-fill-under-toll .fill-under-toll .kept .1 .1 .1 .1 .1 .1 .0
+    ∙ at-refresh .refresh .kept .1 .1 .1 .0
 
 returns : tie.Need-returns
 returns c =
     let linked = c .before .before .before .before in
     let filled = linked .before .before .before .before .before .before .before .before .before .before .before in
     let shaped = filled .before .before .before .before .before .before in
-    let named = at-relabel shaped in
-    let stepped = at-reprice named in
-    moved-step (stepped .reprice .ensures) (named .relabel .ensures) (at-entry stepped .pre)
+    let freshed = with-toll-refresh shaped in
+    let stepped = refresh-reprice freshed in
+    moved-step (stepped .reprice .ensures) (freshed .refresh .ensures) (reprice-entry stepped .pre)
     (rw (shaped .with-toll .ensures) at (filled .fill-under-toll .ensures)) (rw (shaped .with-toll .ensures) at (linked .link .ensures))
 
 pub next-toll-spec : {M : Type 1} → statement M
@@ -103,7 +113,7 @@ next-toll-spec =
     (tie.spec
     reprice-requires
     sub-rest
-    relabel-requires
+    refresh-requires
     with-toll-requires
     fill-under-toll-requires
     link-requires

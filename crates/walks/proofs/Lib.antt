@@ -1,0 +1,5 @@
+-- The laws that belong to no one function.
+pub mod WayLaws
+pub mod StackLaws
+pub mod WalkLaws
+pub mod RoundLaws
