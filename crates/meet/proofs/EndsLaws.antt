@@ -1,5 +1,5 @@
--- Laws of a search from both ends, over functions. A node is reached from one end at most, since the labels of the two directions differ; so
--- both ends together have no more nodes than there are, and their parts of the queue do not overlap.
+-- Laws of a search from both ends, over functions. A node is reached from one end at most, since the labels of the two directions differ;
+-- so both ends together have no more nodes than there are, and their parts of the queue do not overlap.
 --   seen-fresh seen-apart    a fresh node is reached from neither end, and no node from both
 --   spot-one spot-apart puts-spot    the places of the queue
 --   both-few                 both ends together have no more nodes than there are
@@ -20,7 +20,7 @@ use Rattle.theory.proofs.SumLaws.{sum-le, sum-one, sum-add, is-no, is-small}
 use Rattle.theory.proofs.TurnLaws.{puts-at}
 use Rattle.scratch.specs.Map.{span, arcIn}
 use Rattle.scratch.proofs.MapLaws.{arc-in-far}
-use Rattle.look.specs.Reach.{predIn, reached, Reach}
+use Rattle.look.specs.Reach.{reached, Reach}
 use Rattle.look.proofs.LabelLaws.{arc-in-low, arc-in-some, arc-in-more, pred-puts}
 use Rattle.look.proofs.ReachLaws.{reach-later, reach-queue, reach-more}
 use Rattle.meet.specs.Ends.{base, seenIn, spot, standsIn, Spread, Both, Took, Free}

@@ -7,8 +7,8 @@
 --   along-first along-look along-open along-side along-end    the items, one after another
 --   along-hit along-item along-raw along-next-side along-next    when item j was looked along
 use mathlib.Core.Path.{_≡_, refl, sym, ap, _∙_}
-use mathlib.Core.Logic.{_⊎_, _≢_, inl, inr, ⊎-elim}
-use mathlib.Core.Bool.{Bool, not}
+use mathlib.Core.Logic.{_⊎_, inl, inr, ⊎-elim}
+use mathlib.Core.Bool.{Bool}
 use mathlib.Core.List.{List}
 use Prim.Native.Nat.{ℕ, _+_, _-_, _≤_, _<_}
 use native.Mathlib.Nat.{le-refl}
@@ -23,9 +23,11 @@ use Rattle.residual.specs.Items.{Raw, AtItem, Item, ItemArc, Unlisted, Least, a
 use Rattle.look.specs.Reach.{Step}
 use Rattle.look.proofs.ReachLaws.{step-item, step-head}
 use Rattle.look.proofs.StepLaws.{same-tables, tables-same, same-ready, same-lists}
-use Rattle.meet.specs.Ends.{Spread, Both, Took, Joins, Free}
-use Rattle.meet.specs.Meet.{seenBy, queueBy, BothIn, SideOf, Still, LookedTook, LookedJoins, LookedPast, Looked, Scanned, Looking, Open, Rising, Every}
-use Rattle.meet.proofs.EndsLaws.{both-few, spread-none, spread-then, free-stale, spread-took, took-both, took-keep, took-rest, seen-stale, took-free}
+use Rattle.meet.specs.Ends.{Both, Joins, Free}
+use Rattle.meet.specs.Meet.{SideOf, LookedTook, LookedJoins, Looked, Scanned, Looking}
+use Rattle.meet.specs.Meet.{Open, Rising, Every}
+use Rattle.meet.proofs.EndsLaws.{both-few, spread-none, spread-then, free-stale, spread-took, took-both, took-keep, took-rest}
+use Rattle.meet.proofs.EndsLaws.{seen-stale, took-free}
 
 module _ {sh : Shape} {back : Bool} {ch sheet t₀ : List ℕ} {u n m : ℕ} where
   pub scanned-none : Open sh ch sheet t₀ back u n m → Scanned sh back ch sheet t₀ t₀ u n m n 0 (λ e. ⊥)

@@ -3,7 +3,7 @@
 --   Going sh ch sheet t₀ t start target n m h k hit    the first h nodes from the start and the first k from the target are done
 --   tested going-hit       the loop's test
 --   going-first going-most going-room going-out going-in going-next-out going-next-in going-end    the loop
-use mathlib.Core.Path.{_≡_, refl, sym, ap, subst, _∙_}
+use mathlib.Core.Path.{_≡_, refl, sym, ap, _∙_}
 use mathlib.Core.Logic.{_⊎_, _≢_, inl, inr, ⊎-elim}
 use mathlib.Core.Bool.{Bool, true, false, not, _&&_}
 use mathlib.Core.List.{List}
@@ -15,13 +15,11 @@ use lib.Dec.{ltb, leb, eqb}
 use borrow.Author.Tests.{ltb-true, ltb-false, leb-true, leb-false, eqb-true, eqb-false}
 use Rattle.theory.specs.Sum.{pick}
 use Rattle.theory.specs.Residual.{Residual}
-use Rattle.theory.specs.Turn.{Puts}
 use Rattle.theory.proofs.TestLaws.{and-true, and-false}
-use Rattle.theory.proofs.TurnLaws.{puts-at}
 use Rattle.scratch.specs.declared.Shape.{Shape}
 use Rattle.scratch.specs.Map.{span, arcIn, labelOf, queueOf, spareOf, keptOf, labels, queues, Room, Put}
 use Rattle.scratch.specs.View.{residualOf}
-use Rattle.scratch.proofs.MapLaws.{keeps-none, keeps-then, put-keeps, room-keeps}
+use Rattle.scratch.proofs.MapLaws.{keeps-then, put-keeps, room-keeps}
 use Rattle.look.specs.Reach.{Step}
 use Rattle.look.proofs.LabelLaws.{arc-in-more}
 use Rattle.look.proofs.ReachLaws.{reach-later, reach-first}

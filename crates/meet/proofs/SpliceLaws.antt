@@ -1,5 +1,6 @@
--- Laws of the splice. The nodes from the joining arc to the target have falling places in the queue of that end. Each gets the label of the
--- other direction, by the arc that leads to it; so the way from the start grows by one node, and the nodes nearer to the target are as they were.
+-- Laws of the splice. The nodes from the joining arc to the target have falling places in the queue of that end. Each gets the label of
+-- the other direction, by the arc that leads to it; so the way from the start grows by one node, and the nodes nearer to the target are as
+-- they were.
 --   arc-low                the number of an arc
 --   head-down head-in head-out head-up    where an arc leads, by its number
 --   grown puts-grown       a queue with one node more

@@ -18,16 +18,15 @@ use Rattle.theory.specs.Network.{Network}
 use Rattle.theory.specs.Formed.{CardNode, ShopNode, Formed}
 use Rattle.theory.proofs.TestLaws.{and-true, and-false}
 use Rattle.scratch.specs.declared.Shape.{Shape}
-use Rattle.scratch.specs.Map.{span, arcIn, labelOf, queueOf, spareOf, cardOf, shopOf, keptOf, labels, queues, Few, Put}
+use Rattle.scratch.specs.Map.{span, arcIn, labelOf, queueOf, cardOf, shopOf, keptOf, labels, queues, Few, Put}
 use Rattle.scratch.specs.View.{netOf, residualOf}
 use Rattle.scratch.proofs.MapLaws.{keeps-then, put-keeps}
 use Rattle.residual.specs.Items.{AtItem, riseAt, fallAt}
 use Rattle.residual.proofs.ListLaws.{row-of}
-use Rattle.look.specs.Reach.{Step}
 use Rattle.look.specs.Look.{Leads, Ends}
 use Rattle.look.proofs.LookLaws.{row-leads}
 use Rattle.meet.specs.Ends.{base, spot}
-use Rattle.meet.specs.Meet.{seenBy, byteFrom, SideOf, Still, Reached, Tried, Looked}
+use Rattle.meet.specs.Meet.{seenBy, byteFrom, SideOf, Tried, Looked}
 
 pub base-most : (back : Bool) (f : ℕ) {x : ℕ} → x ≡ base back f → x ≤ f + span
 base-most true f e = omega arith

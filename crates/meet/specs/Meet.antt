@@ -7,7 +7,8 @@
 --                          hit is e + 1, or neither
 --   Looked sh back ch sheet t t′ u e n n′ hit    the step of arc e from u was looked along
 --   Looking sh ch sheet t n    what looking along an arc asks, where n nodes are reached
---   Open sh ch sheet t back u n m    what a scan of node u asks, where n nodes are reached in this direction and m in the other: u is reached
+--   Open sh ch sheet t back u n m    what a scan of node u asks, where n nodes are reached in this direction and m in the other: u is
+--                          one of the former
 --   Scanned sh back ch sheet t t′ u n m n′ hit P    the steps from u by the arcs of P were looked along: n′ nodes are reached, and hit is
 --                          an arc that leads to the other end, plus 1; or it is 0 and none of them does, nor to a fresh node
 --   Rising sh back u e     e is the arc of a step from u to its parent
@@ -15,12 +16,13 @@
 --   byteFrom back b        the byte in the choice of a row that is a step from a node of the shop side, where b holds, or of the card side
 --   Asked sh ch sheet t start target    what the search asks: two different fresh nodes, and no node that is reached
 --   Joint sh ch sheet t t′ e    arc e leads from a node that was reached from the start to one that was reached from the target
---   Held sh ch sheet t t′ start target n m    n nodes are reached from the start and m from the target, and each of them was fresh. The target
---                          itself has a number that no arc has
+--   Held sh ch sheet t t′ start target n m    n nodes are reached from the start and m from the target, and each of them was fresh.
+--                          The target itself has a number that no arc has
 --   Begun sh ch sheet t start target    what going on from both ends asks
---   Met sh ch sheet t t′ start target n m hit out    what the search promises: the same; where hit is above 0, arc hit - 1 leads from one end
---                          to the other. Else, where `out` holds, no open arc leads from the nodes that were reached from the start to
---                          another one that was fresh, and where not, none leads from such a node to those that were reached from the target
+--   Met sh ch sheet t t′ start target n m hit out    what the search promises: the same; where hit is above 0, arc hit - 1 leads from
+--                          one end to the other. Else, where `out` holds, no open arc leads from the nodes that were reached from the
+--                          start to another one that was fresh, and where not, none leads from such a node to those that were reached
+--                          from the target
 use mathlib.Core.Path.{_≡_}
 use mathlib.Core.Logic.{_⊎_, _≢_}
 use mathlib.Core.Bool.{Bool, true, false, not}

@@ -1,8 +1,8 @@
 -- What the splice asks and promises: a way from the start and a way to the target, with an arc between them, become one way from the start.
 --   HeadOf r S spare e v   arc e leads to no other node than v
 --   Joined sh ch sheet t start target hit    what the splice asks: a search from both ends has met, by arc hit - 1
---   Spliced sh ch sheet t t′ start target    what it promises: only labels changed, those of nodes that were reached from the target and are
---                          reached from the start now; so is the target, by arcs that lead on from the start
+--   Spliced sh ch sheet t t′ start target    what it promises: only labels changed, those of nodes that were reached from the target
+--                          and are reached from the start now; so is the target, by arcs that lead on from the start
 use mathlib.Core.Path.{_≡_}
 use mathlib.Core.Logic.{_⊎_}
 use mathlib.Core.Bool.{true, false}

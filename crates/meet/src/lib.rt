@@ -1,5 +1,5 @@
-// A search from both ends: from the start along open arcs, and from the target against them, until an arc leads from what the one reached to
-// what the other did, or one of them has no arc left. It changes label and queue alone.
+// A search from both ends: from the start along open arcs, and from the target against them, until an arc leads from what the one reached
+// to what the other did, or one of them has no arc left. It changes label and queue alone.
 //
 // A node that is reached from the start by arc e has the label fresh + e + 1, and one that is reached from the target fresh + SPAN + e + 1.
 // The places of the queue from 0 up hold the former, those from groups + 2 down the latter. The end that has reached fewer nodes goes on: a

@@ -1,6 +1,5 @@
-// The two ways of a search from both ends become one: the nodes on the way from the joining arc to the target get the labels that they had if
-// the search had come to them from the start.
-ghost use mathlib.Core.Path.{_≡_};
+// The two ways of a search from both ends become one: the nodes on the way from the joining arc to the target get the labels that they had
+// if the search had come to them from the start.
 ghost use Prim.Native.Nat.{_+_, _*_, _<_};
 ghost use Rattle.scratch.specs.Memory.{memory};
 ghost use Rattle.scratch.specs.Map.{spareOf, keptOf};

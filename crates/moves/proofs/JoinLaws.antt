@@ -3,8 +3,8 @@
 --   join-path              the spliced way is a path
 --   queued-first queued-last join-first join-second    what giving the nodes labels again asks
 --   join-exchanged         what was done then
-use mathlib.Core.Path.{_≡_, refl, sym, ap, subst, _∙_}
-use mathlib.Core.Logic.{_⊎_, _≢_, inl, inr, ⊎-elim}
+use mathlib.Core.Path.{_≡_, sym, ap, subst, _∙_}
+use mathlib.Core.Logic.{_⊎_, inl, inr, ⊎-elim}
 use mathlib.Core.Bool.{Bool, true, false}
 use mathlib.Core.List.{List}
 use Prim.Native.Nat.{ℕ, _+_, _-_, _≤_, _<_}
@@ -16,11 +16,10 @@ use Rattle.theory.specs.Level.{count}
 use Rattle.theory.specs.Turn.{Flipped, Inside}
 use Rattle.scratch.specs.declared.Shape.{Shape}
 use Rattle.scratch.specs.Map.{maxSpare, arcIn, labelOf, predOf, queueOf, spareOf, keptOf, labels, queues, spares, Room, OnlySearch}
-use Rattle.scratch.specs.View.{netOf, residualOf}
 use Rattle.scratch.proofs.MapLaws.{keeps-more, keeps-then, room-keeps}
 use Rattle.look.specs.Reach.{Reach}
 use Rattle.look.proofs.ReachLaws.{reached-most}
-use Rattle.look.proofs.StepLaws.{search-residual, search-spare, same-tables, tables-same, same-ready}
+use Rattle.look.proofs.StepLaws.{search-residual, search-spare, same-tables, same-ready}
 use Rattle.search.specs.Search.{Queued, QueuedIn, Relabelled, RelabelledIn, fromLast}
 use Rattle.paths.specs.Flip.{Path, Walked}
 use Rattle.paths.proofs.FlipLaws.{path-reach}

@@ -1,7 +1,7 @@
 -- What turning the path of a search from both ends asks and promises.
 --   Seen sh t v            node v was reached, from one end or the other
---   Meeting sh ch sheet t start target n m hit    what it asks: both ends have met by arc hit - 1, with n and m nodes, and no group has more
---                          places left than it is given
+--   Meeting sh ch sheet t start target n m hit    what it asks: both ends have met by arc hit - 1, with n and m nodes, and no group
+--                          has more places left than it is given
 --   Exchanged sh ch sheet t ch′ t′ start target   what it promises: the path was turned, between nodes that were reached, and those nodes
 --                          are fresh again; the others have the label that they had
 use mathlib.Core.Path.{_≡_}

@@ -20,7 +20,8 @@ use Rattle.theory.proofs.ResidualLaws.{sides-apart}
 use Rattle.theory.proofs.CutLaws.{tail-node, head-node}
 use Rattle.theory.proofs.ClassLaws.{sorted-freed, sorted-split, sorted-inside, sorted-put}
 use Rattle.scratch.specs.declared.Shape.{Shape}
-use Rattle.scratch.specs.Map.{span, arcIn, Room, Keeps, OnlySearch, PutKept, queues, cardNodes, shopNodes, labelOf, queueOf, spareOf, cardOf, shopOf, weightOf, priceOf, keptOf, rowPrice}
+use Rattle.scratch.specs.Map.{span, arcIn, Room, Keeps, OnlySearch, PutKept, queues, cardNodes, shopNodes, labelOf, queueOf, spareOf}
+use Rattle.scratch.specs.Map.{cardOf, shopOf, weightOf, priceOf, keptOf, rowPrice}
 use Rattle.scratch.specs.View.{netOf, residualOf}
 use Rattle.scratch.proofs.MapLaws.{keeps-more, keeps-then, room-keeps}
 use Rattle.residual.specs.Items.{Links}
@@ -35,10 +36,12 @@ use Rattle.prices.proofs.StateLaws.{weight-keeps}
 use Rattle.prices.proofs.ReadyLaws.{state-ready}
 use Rattle.moves.specs.Join.{Seen, Meeting, Exchanged}
 use Rattle.moves.proofs.LabelLaws.{arc-in-class}
-use Rattle.moves.proofs.MoveLaws.{residual-keeps, moves-keeps, lists-paid, OnlyUnread, unread-search, unread-keeps, spare-unread, filled-unread, cycle-filled, cycle-next}
+use Rattle.moves.proofs.MoveLaws.{residual-keeps, moves-keeps, lists-paid, OnlyUnread, unread-search, unread-keeps, spare-unread}
+use Rattle.moves.proofs.MoveLaws.{filled-unread, cycle-filled, cycle-next}
 use Rattle.moves.proofs.JoinLaws.{named-both, queued-first, queued-last}
 use Rattle.order.specs.Order.{Classes, AtRow, Placed, EndsNamed, Swapping}
-use Rattle.order.proofs.ClassLaws.{Split, Parts, parts-in, parts-out, ranked-same, ranked-split, sorted-equal, classes-of, classes-ranked, classes-freed}
+use Rattle.order.proofs.ClassLaws.{Split, Parts, parts-in, parts-out, ranked-same, ranked-split, sorted-equal, classes-of}
+use Rattle.order.proofs.ClassLaws.{classes-ranked, classes-freed}
 use Rattle.order.proofs.OrderLaws.{order-unread, card-node, shop-node, stays-low, placed-then}
 
 flipped-ends :

@@ -2,7 +2,7 @@
 --   going-first going-most going-room going-open going-next going-found going-end    the queue
 --   lit-seeded lit-searched    before the first turn
 --   labels-none labels-read labels-more fresh-none fresh-more    labels are given
-use mathlib.Core.Path.{_≡_, refl, sym, ap, subst, _∙_}
+use mathlib.Core.Path.{_≡_, refl, sym, ap, _∙_}
 use mathlib.Core.Logic.{_≢_, ⊎-elim}
 use mathlib.Core.Bool.{Bool, true}
 use mathlib.Core.List.{List}
@@ -15,10 +15,10 @@ use Rattle.theory.proofs.TurnLaws.{puts-at}
 use Rattle.scratch.specs.declared.Shape.{Shape}
 use Rattle.scratch.specs.Map.{arcIn, labelOf, predOf, queueOf, spareOf, keptOf, labels, queues, span, Room, Put, OnlySearch}
 use Rattle.scratch.specs.View.{residualOf}
-use Rattle.look.specs.Reach.{Step, predIn, Spread, Reach, Done, Grew}
+use Rattle.look.specs.Reach.{Step, Spread, Reach, Done, Grew}
 use Rattle.look.specs.Look.{Reached}
-use Rattle.search.specs.Search.{ReachBy, Open, Scanned, Seeded, Asked, SearchedBy, Queued, RelabelledIn, Refreshed, Every}
-use Rattle.scratch.proofs.MapLaws.{keeps-none, keeps-then, keeps-more, put-keeps, room-keeps}
+use Rattle.search.specs.Search.{ReachBy, Open, Scanned, Seeded, Asked, SearchedBy, RelabelledIn, Refreshed, Every}
+use Rattle.scratch.proofs.MapLaws.{keeps-none, keeps-then, put-keeps, room-keeps}
 use Rattle.look.proofs.LabelLaws.{pred-puts, spread-none, spread-then, spread-puts, spread-stale}
 use Rattle.look.proofs.ReachLaws.{reached-most, reach-later, reach-first}
 use Rattle.look.proofs.StepLaws.{same-tables, tables-same, same-ready, same-lists}

@@ -1,7 +1,6 @@
 -- What the functions of the search ask and promise. A search changes label and queue alone. It goes along open arcs, or against them where
 -- `back` holds: a step from u to v is by an open arc from u to v, or from v to u.
 --   ReachBy sh back ch sheet t t′ h n   in t′ the nodes that are reached by steps of the residual network of t
---   ReachOf sh ch sheet t t′ h n   the same along open arcs
 --   Open sh back ch sheet t u h n   what a scan of node u asks: u stands in place h of the queue; against the arcs it is not the source,
 --                              whose list may be short
 --   Scanned sh back ch sheet t t′ u h n n′ P  no step by an arc of P from u leads to a fresh node
@@ -13,20 +12,19 @@
 --   SearchedBy sh back ch sheet t t′ start target n   what it promises: n nodes are reached, the first of them the start, each other by
 --                              a step from one before it, and each was fresh; where the target is not reached, no step leads from a
 --                              reached node to a fresh one. Node v is reached exactly where `predOf sh t′ v` is above 0
---   Searched sh ch sheet t t′ start target n   the same along open arcs
 --   QueuedIn sh t queue n      the first n places of a queue hold nodes
 --   RelabelledIn sh queue t t′ n x    the nodes in the first n places of a queue have the label x, and the others the old one
 --   Queued sh t n, Relabelled sh t t′ n x    the same of the queue in the buffer
 --   fromLast sh t              that queue from its last place down
 --   Refreshed sh t t′ m        the nodes below m are fresh
 use mathlib.Core.Path.{_≡_}
-use mathlib.Core.Logic.{_⊎_, _≢_}
-use mathlib.Core.Bool.{Bool, true, false}
+use mathlib.Core.Logic.{_≢_}
+use mathlib.Core.Bool.{Bool, true}
 use mathlib.Core.List.{List}
 use Prim.Native.Nat.{ℕ, _+_, _-_, _≤_, _<_}
 use Rattle.theory.specs.Sum.{pick}
 use Rattle.scratch.specs.declared.Shape.{Shape}
-use Rattle.scratch.specs.Map.{labelOf, predOf, queueOf, spareOf, keptOf, queues, Room, Keeps, OnlySearch, OnlyLabels}
+use Rattle.scratch.specs.Map.{labelOf, predOf, queueOf, spareOf, keptOf, Room, OnlySearch, OnlyLabels}
 use Rattle.scratch.specs.View.{residualOf}
 use Rattle.residual.specs.State.{Ready}
 use Rattle.residual.specs.Items.{Lists}
@@ -34,10 +32,6 @@ use Rattle.look.specs.Reach.{Step, Spread, Reach, Done, Grew}
 
 abbrev pub ReachBy : Shape → Bool → List ℕ → List ℕ → List ℕ → List ℕ → ℕ → ℕ → Type 0
 ReachBy sh back ch sheet t t′ h n = Reach back (residualOf sh sheet t) (keptOf ch) (spareOf sh t) (predOf sh t′) (queueOf sh t′) h n
-
--- along open arcs
-abbrev pub ReachOf : Shape → List ℕ → List ℕ → List ℕ → List ℕ → ℕ → ℕ → Type 0
-ReachOf sh ch sheet t t′ h n = ReachBy sh false ch sheet t t′ h n
 
 pub record Asked (sh : Shape) (ch sheet t : List ℕ) (start target : ℕ) : Type 0 where
   pub ready : Ready sh ch sheet t
@@ -82,10 +76,6 @@ module _ (sh : Shape) (back : Bool) (ch sheet t : List ℕ) where
     pub closed :
         predOf sh t′ target ≡ 0 → (u : ℕ) → u < sh .groups + 2 → 0 < predOf sh t′ u →
         Done back (residualOf sh sheet t) (keptOf ch) (spareOf sh t) (sh .fresh) (labelOf sh t′) u
-
--- a search along open arcs
-abbrev pub Searched : Shape → List ℕ → List ℕ → List ℕ → List ℕ → ℕ → ℕ → ℕ → Type 0
-Searched sh ch sheet t t′ start target n = SearchedBy sh false ch sheet t t′ start target n
 
 pub record QueuedIn (sh : Shape) (t : List ℕ) (queue : ℕ → ℕ) (n : ℕ) : Type 0 where
   pub room : Room sh t

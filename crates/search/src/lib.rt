@@ -59,8 +59,8 @@ fn spread_in(
 }
 
 // Searches against open arcs from the start until the target is reached or no arc is left; where the target is not fresh, to the end. The
-// nodes that it reaches are those that lead to the start. The answer is how many there are. The source is not fresh: it is not gone on from,
-// and its list may be short.
+// nodes that it reaches are those that lead to the start. The answer is how many there are. The source is not fresh: it is not gone on
+// from, and its list may be short.
 pub fn search_back(
     sh: Shape,
     start: usize,

@@ -28,7 +28,8 @@ use Rattle.search.specs.Search.{Refreshed}
 use Rattle.paths.specs.Flip.{OldFrom, Walked}
 use Rattle.prices.specs.State.{OnlyMoves, State, Filled}
 use Rattle.prices.proofs.StateLaws.{filled-none, filled-then}
-use Rattle.moves.proofs.MoveLaws.{moves-keeps, lists-path, residual-keeps, unread-labels, unread-search, state-unread, filled-unread, path-filled, path-more}
+use Rattle.moves.proofs.MoveLaws.{moves-keeps, lists-path, residual-keeps, unread-labels, unread-search, state-unread, filled-unread}
+use Rattle.moves.proofs.MoveLaws.{path-filled, path-more}
 use Rattle.walks.specs.Walk.{Ahead, Swept, SweptOf, Begun, Stuck, Walk, Crossed, Turn, Ran, Rewound, Round}
 
 --------------------------------------------------------------------------------

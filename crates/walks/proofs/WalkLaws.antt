@@ -21,7 +21,8 @@ use Rattle.theory.proofs.ResidualLaws.{arc-down, arc-up, arc-row}
 use Rattle.theory.proofs.CutLaws.{tail-node, head-node}
 use Rattle.exchange.specs.Plain.{Forward}
 use Rattle.scratch.specs.declared.Shape.{Shape}
-use Rattle.scratch.specs.Map.{arcIn, labelOf, predOf, queueOf, spareOf, parentOf, cardOf, shopOf, keptOf, labels, queues, span, Put, OnlySearch}
+use Rattle.scratch.specs.Map.{arcIn, labelOf, predOf, queueOf, spareOf, parentOf, cardOf, shopOf, keptOf, labels, queues, span, Put}
+use Rattle.scratch.specs.Map.{OnlySearch}
 use Rattle.scratch.specs.View.{residualOf}
 use Rattle.scratch.proofs.MapLaws.{keeps-none, keeps-then, keeps-more, put-keeps}
 use Rattle.look.specs.Reach.{Step}
@@ -32,7 +33,8 @@ use Rattle.prices.specs.State.{limitOf, State}
 use Rattle.prices.proofs.ReadyLaws.{state-ready}
 use Rattle.moves.proofs.MoveLaws.{unread-search, state-unread}
 use Rattle.walks.specs.Walk.{Ahead, Fresh, Swept, SweptOf, Stride, TailOf, Standing, Returns, Went, Stepped, Begun, Set, Stuck, Walk}
-use Rattle.walks.proofs.StackLaws.{Walking, swept-spread, ahead-next, trail-node, trail-seen, trail-via, trail-begin, trail-most, trail-place, trail-stands, walking-first, walking-next, walking-low, walking-stuck}
+use Rattle.walks.proofs.StackLaws.{Walking, swept-spread, ahead-next, trail-node, trail-seen, trail-via, trail-begin, trail-most}
+use Rattle.walks.proofs.StackLaws.{trail-place, trail-stands, walking-first, walking-next, walking-low, walking-stuck}
 
 --------------------------------------------------------------------------------
 -- The way back

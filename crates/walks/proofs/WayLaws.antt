@@ -32,7 +32,8 @@ use Rattle.look.proofs.LookLaws.{up-leads, down-leads, row-leads}
 use Rattle.look.proofs.ReachLaws.{arc-row, arc-child, unlisted-step}
 use Rattle.look.proofs.StepLaws.{same-tables, tables-same, same-ready, same-lists, item-down, item-row, ends-card, ends-shop, at-shop}
 use Rattle.search.specs.Search.{Rising}
-use Rattle.walks.specs.Walk.{Pointed, Ahead, Fresh, Goes, Ways, FreshOf, GoesOf, BarrenOf, WaysOf, Beyond, Onto, Standing, Chosen, Opened, Went}
+use Rattle.walks.specs.Walk.{Pointed, Ahead, Fresh, Goes, Ways, FreshOf, GoesOf, BarrenOf, WaysOf, Beyond, Onto, Standing, Chosen}
+use Rattle.walks.specs.Walk.{Opened, Went}
 
 --------------------------------------------------------------------------------
 -- One arc

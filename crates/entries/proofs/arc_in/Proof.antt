@@ -1,5 +1,5 @@
--- A label at or above b, and less than `span` above it, is of the class with label b: it says the difference, which is 0 for b itself and for a
--- label below it (`arc-in-near`). A label that lies higher is of another class (`arc-in-far`).
+-- A label at or above b, and less than `span` above it, is of the class with label b: it says the difference, which is 0 for b itself and
+-- for a label below it (`arc-in-near`). A label that lies higher is of another class (`arc-in-far`).
 use native.Mathlib.Omega.{arith}
 use Rattle.scratch.proofs.MapLaws.{arc-in-near, arc-in-far}
 use Rattle.entries.proofs.arc_in.Statement.{statement}

@@ -7,7 +7,8 @@ use lib.ListN.{length}
 use borrow.Author.Needs.{needs}
 use Rattle.scratch.specs.Memory.{memory}
 use Rattle.meet.specs.Meet.{Begun}
-use Rattle.meet.proofs.SearchLaws.{Going, tested, going-hit, going-first, going-most, going-room, going-out, going-in, going-next-out, going-next-in, going-end}
+use Rattle.meet.proofs.SearchLaws.{Going, tested, going-hit, going-first, going-most, going-room, going-out, going-in}
+use Rattle.meet.proofs.SearchLaws.{going-next-out, going-next-in, going-end}
 use Rattle.meet.proofs.spread_both.Statement.{statement}
 use Rattle.meet.proofs.spread_both.Tie as tie
 

@@ -1,4 +1,5 @@
--- Where the search did not meet, no rows make way for the row (`swap-blocked`). Else the path is turned and the row goes in (`swap-crossed`).
+-- Where the search did not meet, no rows make way for the row (`swap-blocked`). Else the path is turned and the row goes in
+-- (`swap-crossed`).
 use mathlib.Core.Path.{refl, _∙_}
 use native.Mathlib.Omega.{arith}
 use borrow.Author.Needs.{needs}

@@ -1,8 +1,6 @@
 -- By its number an arc leads down to a group, along a row, or up to a parent.
 use mathlib.Core.Path.{refl, sym, _∙_}
-use mathlib.Core.List.{List}
 use Prim.Native.Nat.{ℕ, _-_}
-use native.Mathlib.Omega.{arith}
 use Rattle.scratch.specs.Memory.{memory}
 use Rattle.scratch.specs.Map.{spareOf, keptOf}
 use Rattle.scratch.specs.View.{residualOf}

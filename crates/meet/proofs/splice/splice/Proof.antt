@@ -1,5 +1,5 @@
--- The invariant, `Splicing`: the way from the start stands, and arc e leads on from it to a node that was reached from the target, or the target
--- is on it. Each turn makes one node of that end a node of the way.
+-- The invariant, `Splicing`: the way from the start stands, and arc e leads on from it to a node that was reached from the target, or the
+-- target is on it. Each turn makes one node of that end a node of the way.
 use mathlib.Core.Path.{_≡_, refl, ap, _∙_}
 use Prim.Native.Nat.{_+_, _-_}
 use native.Mathlib.Omega.{arith}
@@ -9,7 +9,8 @@ use Rattle.scratch.specs.Memory.{memory}
 use Rattle.scratch.specs.Map.{arcIn, span}
 use Rattle.look.specs.Reach.{reached}
 use Rattle.meet.specs.Meet.{seenBy}
-use Rattle.meet.proofs.SpliceLaws.{Splicing, splicing-first, splicing-ready, splicing-node, splicing-seen, splicing-next, splicing-less, splicing-end}
+use Rattle.meet.proofs.SpliceLaws.{Splicing, splicing-first, splicing-ready, splicing-node, splicing-seen, splicing-next}
+use Rattle.meet.proofs.SpliceLaws.{splicing-less, splicing-end}
 use mathlib.Core.Bool.{true}
 use Rattle.meet.proofs.splice.splice.Statement.{statement}
 use Rattle.meet.proofs.splice.splice.Tie as tie

@@ -1,6 +1,4 @@
 -- A group has one arc to its parent (`rising-told`), and a root none (`rising-none`).
-use native.Mathlib.Omega.{arith}
-use Rattle.meet.proofs.EndsLaws.{both-few}
 use Rattle.meet.proofs.ScanLaws.{scanned-none, open-look, rising-told, rising-none}
 use borrow.Author.Needs.{needs}
 use Rattle.meet.proofs.step.look_above.Statement.{statement}

@@ -1,4 +1,5 @@
--- An item is a child or a row. A listed row costs its weight, so its arc is open; it leads from the node where its byte in the choice says so.
+-- An item is a child or a row. A listed row costs its weight, so its arc is open; it leads from the node where its byte in the choice says
+-- so.
 use mathlib.Core.Path.{refl}
 use mathlib.Core.List.{List}
 use Prim.Native.Nat.{ℕ}
@@ -7,7 +8,6 @@ use native.Mathlib.Omega.{arith}
 use borrow.Author.Tests.{eq-eqb, ne-eqb}
 use Rattle.scratch.specs.View.{netOf}
 use Rattle.look.proofs.ReachLaws.{arc-row, arc-child}
-use Rattle.look.proofs.LookLaws.{row-leads}
 use Rattle.look.proofs.StepLaws.{item-down, ends-below}
 use Rattle.meet.proofs.StepLaws.{looked-tried, looked-none, looked-as, item-leads, row-ends}
 use borrow.Author.Needs.{needs}

@@ -1,5 +1,5 @@
--- The invariant: the items before the one at hand have been looked along (`Along`), and none of them leads to the other end. The items stand
--- in the order of their numbers, so that the number at hand rises with each turn.
+-- The invariant: the items before the one at hand have been looked along (`Along`), and none of them leads to the other end. The items
+-- stand in the order of their numbers, so that the number at hand rises with each turn.
 use mathlib.Core.Path.{_≡_, refl}
 use Prim.Native.Nat.{_-_}
 use native.Mathlib.Omega.{arith}

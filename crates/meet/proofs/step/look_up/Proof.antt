@@ -1,5 +1,4 @@
 -- The arc between a group and its parent: up along the arcs, down against them. Whether it is a step was asked first.
-use native.Mathlib.Omega.{arith}
 use Rattle.look.proofs.StepLaws.{up-node}
 use Rattle.meet.proofs.StepLaws.{rise-small, looked-by, looked-none}
 use borrow.Author.Needs.{needs}

@@ -1,4 +1,5 @@
--- The arc to the parent comes before the items: together these are all steps from the node (`scanned-all`), until one leads to the other end.
+-- The arc to the parent comes before the items: together these are all steps from the node (`scanned-all`), until one leads to the other
+-- end.
 use Rattle.meet.proofs.StepLaws.{side-told}
 use Rattle.meet.proofs.ScanLaws.{scanned-hit, scanned-on, scanned-all}
 use borrow.Author.Needs.{needs}

@@ -1,5 +1,5 @@
--- The spliced way is a path (`join-path`). Turning it leaves labels and queue, so both ends still stand in the queue, and their nodes are made
--- fresh again (`join-exchanged`).
+-- The spliced way is a path (`join-path`). Turning it leaves labels and queue, so both ends still stand in the queue, and their nodes are
+-- made fresh again (`join-exchanged`).
 use native.Mathlib.Omega.{arith}
 use borrow.Author.Needs.{needs}
 use Rattle.moves.proofs.JoinLaws.{join-path, join-first, join-second, join-exchanged}

@@ -1,6 +1,6 @@
--- The loop's invariant, `At`: the walk has come back from the target to u by so many arcs, and the part from u to the target is turned. Each
--- turn goes to a node that was reached earlier (`at-next`), so that there are no more turns than nodes (`at-more`); at the start the whole path
--- is turned (`at-end`).
+-- The loop's invariant, `At`: the walk has come back from the target to u by so many arcs, and the part from u to the target is turned.
+-- Each turn goes to a node that was reached earlier (`at-next`), so that there are no more turns than nodes (`at-more`); at the start the
+-- whole path is turned (`at-end`).
 use Rattle.scratch.specs.Memory.{memory}
 use borrow.Author.Needs.{needs}
 use mathlib.Core.Path.{_≡_, refl}
