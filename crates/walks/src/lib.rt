@@ -2,7 +2,7 @@
 //
 // A walk starts at the source and goes on along the first open arc that leads to a fresh node, and back where there is none, until it comes
 // to the sink. The path is turned, every node is fresh again, and the next walk of the round starts. Cell v of the queue is the item of
-// node v that is looked along next: no item is looked along twice in a round.
+// node v that is looked along next: an item that was passed is not looked along again in the round.
 //
 // A round need not find every path: where it turned one, another round follows. In a round that turned none the nodes that have a pred are
 // those that can be reached from the source, and no open arc leads from them to another node.
