@@ -4,6 +4,8 @@
 // `accept_on` does the same for a file that is accepted with a known layout. Nothing is changed. Whether a sheet covers the claims,
 // and its total, crate `sheets` tells, in one table with a cell of 16 bits for each group. The cost is rows + groups; the table is
 // all the memory.
+#![tactic(auto)]
+
 ghost use Rattle.std.specs.Prelude.{true, ◌≡◌};
 ghost use Rattle.theory.specs.Matroid.{row};
 ghost use Rattle.theory.specs.Network.{fits_both};
@@ -32,7 +34,7 @@ use theory::MAX_GROUPS;
 const NODES: usize = 2 * MAX_GROUPS + 2;
 
 // What is found of a closing: it is accepted, or why not.
-#[derive(Drop)]
+#[derive(Clone, Copy)]
 pub enum Verdict {
     Accepted,
     Refused(Reason),

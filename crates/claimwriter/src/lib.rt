@@ -2,6 +2,8 @@
 //
 // The counts are put once; records may be put in any order, and a group that was put can be read back. A buffer that has them all
 // starts with the file (`written-cells`, proofs/WrittenLaws.antt). The counts of an accepted file give its layout back (`layout_in`).
+#![tactic(auto)]
+
 ghost use Rattle.std.specs.Prelude.{◌≡◌, ◌+◌, ◌*◌, ◌<◌, ◌≤◌, ◌++◌, length};
 ghost use Rattle.theory.specs.Bounds.{max_groups, max_rows};
 ghost use Rattle.theory.specs.Matroid.{row};

@@ -1,6 +1,8 @@
 // The map of the lent buffers: a reader and a writer for each table of the scratch slice, for the prices in the sheet and for
 // the bytes of the choice. Scratch and sheet are lent in cells of 32 bits or, where `wide` holds, of 64: as `scratch` or as `scratch64`,
 // and the other slice is not looked at. `cells` knows where a cell lies.
+#![tactic(auto)]
+
 ghost use Rattle.std.specs.Prelude.{◌≡◌, ◌+◌, ◌≤◌, ◌<◌, length};
 ghost use Rattle.theory.specs.Bounds.{cell_bound};
 ghost use Rattle.scratch.specs.Memory.{memory};

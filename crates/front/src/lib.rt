@@ -1,4 +1,6 @@
 // The program: it settles the claim file on standard input and prints the result.
+#![tactic(auto)]
+
 ghost use Rattle.std.specs.Prelude.{◌≡◌, ◌+◌, ◌*◌, length};
 ghost use Rattle.theory.specs.Bounds.{max_groups, max_rows};
 ghost use Rattle.claimwriter.specs.Written.{length_for};

@@ -4,6 +4,8 @@
 // sink are turned until there is none: the kept rows are then a largest choice of earned rows. The nodes that are reached from the
 // source get a label, and those that reach the sink another; a row's code is read off the labels of its two nodes
 // (crate `labels`).
+#![tactic(auto)]
+
 ghost use Rattle.std.specs.Prelude.{◌+◌, ◌<◌};
 ghost use Rattle.scratch.specs.Memory.{memory};
 ghost use Rattle.scratch.specs.Map.{Room};

@@ -1,6 +1,8 @@
 // What a group and a row of an accepted file mean: the node above a group, its written limit, the two nodes of a row and its weight.
 //
 // Card group g is node g, and shop group h is node cards + h. Above the tops of a side stands a node that is no group, its root.
+#![tactic(auto)]
+
 ghost use Rattle.std.specs.Prelude.{◌≡◌, ◌+◌, ◌*◌, ◌^◌, min, ◌≤◌, ◌<◌};
 ghost use Rattle.theory.specs.Bounds.{max_groups, max_rows};
 ghost use Rattle.claimfile.specs.File.{second_terms};

@@ -2,6 +2,8 @@
 //
 // `settle_joined` takes any bytes, any list of lengths and any buffers. The files are judged first (crate `members`); then the joined day is
 // closed as the day of one file is, by its tables (crate `jointables`) and by counting the kept rows of each file.
+#![tactic(auto)]
+
 ghost use Rattle.std.specs.Prelude.{◌≡◌, ◌+◌, ◌<◌, ◌≤◌};
 ghost use Rattle.theory.specs.Bounds.{max_groups, max_rows};
 ghost use Rattle.claimfile.specs.Day.{instance_of};
@@ -25,7 +27,7 @@ use tables::write::shape_of;
 
 // What settling counters together answers: what the joined day comes to; or the lowest file at fault, with the reader's own refusal; or why
 // the call is turned away.
-#[derive(Drop)]
+#[derive(Clone, Copy)]
 pub enum Joint {
     Closed(Totals),
     Member { file: usize, refusal: Refusal },
@@ -33,7 +35,7 @@ pub enum Joint {
 }
 
 // How many rows the files so far have, how many of these are kept, and how many of those are earned.
-#[derive(Drop)]
+#[derive(Clone, Copy)]
 pub struct Tally {
     pub row: usize,
     pub earned: usize,

@@ -2,6 +2,8 @@
 //
 // The oven comes first, as the first shop group. Then each file is written where it stands, with the oven over its top shop groups. The
 // joined file itself is never written.
+#![tactic(auto)]
+
 ghost use Rattle.std.specs.Prelude.{◌≡◌, ◌+◌, ◌<◌};
 ghost use Rattle.scratch.specs.Map.{Room};
 ghost use Rattle.jointables.specs.Filled.{next_spot, MemberStands, WroteMember, PutOven, FilledAll, JoinGiven, JoinWrote};

@@ -3,6 +3,8 @@
 //
 // `settle_kinds` takes any bytes, as a new file in the week layout, and any buffers. `settle_kinds_on` does the same for a file that is
 // accepted with a known layout.
+#![tactic(auto)]
+
 ghost use Rattle.std.specs.Prelude.{◌≡◌, ◌+◌, ◌*◌, ◌^◌, ◌≤◌, ◌<◌};
 ghost use Rattle.theory.specs.Bounds.{max_rows};
 ghost use Rattle.claimfile.specs.File.{second_terms};
@@ -24,7 +26,7 @@ use solver::solve;
 use tables::write::{shape_of_kinds, write_tables};
 
 // How many rows of each kind are kept, how many in all, and the sheet's total.
-#[derive(Drop)]
+#[derive(Clone, Copy)]
 pub struct KindTotals {
     pub kind0: usize,
     pub kind1: usize,
@@ -34,7 +36,7 @@ pub struct KindTotals {
     pub total: usize,
 }
 
-#[derive(Drop)]
+#[derive(Clone, Copy)]
 pub enum SettledKinds {
     Closed(KindTotals),
     Refused(Reason),

@@ -2,6 +2,8 @@
 //
 // A node that is reached from the source has one label, and a node that reaches the sink another. What holds an earned row is told by the
 // labels of its two nodes; an ordinary row weighs less than the toll and has the code 0.
+#![tactic(auto)]
+
 ghost use Rattle.std.specs.Prelude.{◌≤◌, ◌<◌, length};
 ghost use Rattle.scratch.specs.Memory.{memory};
 ghost use Rattle.residual.specs.Items.{Raw};

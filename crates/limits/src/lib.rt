@@ -2,6 +2,8 @@
 //
 // A selection is one byte a row, 1 where the row is in it; bytes past the last row are not read. The file is read and the selection judged
 // here (`enter`); whether it fits a side, and its rank there, crate `sides` tells.
+#![tactic(auto)]
+
 ghost use Rattle.std.specs.Prelude.{◌≡◌};
 ghost use Rattle.reader.specs.declared.Reading.TheVariants.{Accepted};
 ghost use Rattle.limits.specs.Answers.{entered_by, entered_in, AnsweredIn, Answered, AnsweredKinds};
@@ -13,14 +15,14 @@ use selection::all_bits;
 use sides::rank_on;
 
 // Whether a selection fits a side, and its rank there.
-#[derive(Drop)]
+#[derive(Clone, Copy)]
 pub enum Ranked {
     Told { fits: bool, rank: usize },
     Refused(Reason),
 }
 
 // A file with a selection of its rows: the file's layout, or why the call is turned away.
-#[derive(Drop)]
+#[derive(Clone, Copy)]
 pub enum Entry {
     Entered(Layout),
     Turned(Reason),

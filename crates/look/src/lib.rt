@@ -1,4 +1,6 @@
 // One step of the search: what looks along one arc, or against it where `back` holds. A node is fresh where its label is the shape's.
+#![tactic(auto)]
+
 ghost use Rattle.std.specs.Prelude.{◌≡◌, ◌+◌, ◌≤◌, ◌<◌, length};
 ghost use Rattle.scratch.specs.Memory.{memory};
 ghost use Rattle.scratch.specs.Map.{parent_of, price_of, span, Room};

@@ -4,6 +4,8 @@
 // A node that is reached from the start by arc e has the label fresh + e + 1, and one that is reached from the target fresh + SPAN + e + 1.
 // The places of the queue from 0 up hold the former, those from groups + 2 down the latter. The end that has reached fewer nodes goes on: a
 // search that fails costs about as much as the smaller of the two sets, and that set is known then.
+#![tactic(auto)]
+
 pub mod splice;
 mod step;
 
@@ -15,7 +17,7 @@ use scratch::Shape;
 use step::{scan_in, scan_out};
 
 // How many nodes are reached in a direction, and an arc that leads to the other end, plus 1; or 0.
-#[derive(Drop)]
+#[derive(Clone, Copy)]
 pub struct Seen {
     pub count: usize,
     pub hit: usize,
@@ -24,7 +26,7 @@ pub struct Seen {
 // How many nodes are reached from the start and from the target, and the arc that joins them, plus 1. Where that is 0, no path leads from
 // the start to the target: where `out` holds no open arc leaves the nodes that were reached from the start, else none enters those from
 // which the target is reached.
-#[derive(Drop)]
+#[derive(Clone, Copy)]
 pub struct Ends {
     pub n: usize,
     pub m: usize,

@@ -3,6 +3,8 @@
 // Beside the buffer stands a list of the files' lengths. `judge_files` reads each file by itself, lowest file first, and tells how many groups
 // and rows they have together, or why they are turned away. The layout of a file that was accepted here is read off its three counts
 // (`claimwriter::layout_in`): no file is judged twice.
+#![tactic(auto)]
+
 ghost use Rattle.std.specs.Prelude.{◌≡◌, true, ◌+◌, ◌<◌, ◌≤◌, length};
 ghost use Rattle.theory.specs.Sum.{sum};
 ghost use Rattle.claimfile.specs.File.{new_week};
@@ -18,7 +20,7 @@ use theory::{MAX_GROUPS, MAX_ROWS};
 pub const MOST_FILES: usize = 8;
 
 // How many groups and rows the files have together.
-#[derive(Drop)]
+#[derive(Clone, Copy)]
 pub struct Sizes {
     pub cards: usize,
     pub shops: usize,
@@ -27,7 +29,7 @@ pub struct Sizes {
 
 // What is found of the files before any buffer is looked at: all are accepted and not too large together; or the lowest file at fault,
 // with the reader's own refusal; or why they are turned away together.
-#[derive(Drop)]
+#[derive(Clone, Copy)]
 pub enum Judged {
     Ready(Sizes),
     Member { file: usize, refusal: Refusal },

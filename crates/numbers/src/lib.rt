@@ -1,5 +1,7 @@
 // What each call answers, in the numbers that C takes: one function for each enum that a call answers. It gives the struct of crate
 // `answers` with document 01's number and values: the refusal's number and zeros, or 0 and what was found.
+#![tactic(auto)]
+
 ghost use Rattle.std.specs.Prelude.{◌≡◌, ◌≤◌, ◌<◌};
 ghost use Rattle.theory.specs.Bounds.{max_rows, max_limit};
 ghost use Rattle.limits.specs.Answers.{ranked_numbers};

@@ -5,6 +5,8 @@
 // in one. A search goes from both ends and stays in one class; where it fails, the nodes of the end that it exhausted become a class of
 // their own. So a row whose two nodes are of different classes stays out without a search. A row that goes in turns a cycle, which lies in
 // one class, and the classes stay as they are.
+#![tactic(auto)]
+
 ghost use Rattle.std.specs.Prelude.{◌≡◌, ◌+◌, ◌<◌};
 ghost use Rattle.theory.specs.Bounds.{cell_bound};
 ghost use Rattle.scratch.specs.Memory.{memory};

@@ -1,2 +1,4 @@
 // Paths of open arcs, turned round.
+#![tactic(auto)]
+
 pub mod flip;

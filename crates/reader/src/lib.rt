@@ -2,6 +2,8 @@
 //
 // `read` takes any bytes, in one of four forms, and says whether they are an accepted file, with its counts and the places of its
 // sections, or why they are refused; module `check` finds the first fault.
+#![tactic(auto)]
+
 mod check;
 
 ghost use Rattle.std.specs.Prelude.{◌≡◌, ◌<◌};
@@ -16,7 +18,7 @@ pub const FIRST_TERMS: u8 = 2;
 pub const SECOND_TERMS: u8 = 4;
 
 // Why a file is turned away: numbers 1 to 7 of document 01, in its order, and 11 of document 02.
-#[derive(Drop)]
+#[derive(Clone, Copy)]
 pub enum Refusal {
     CutOff,
     GroupCount,
@@ -29,14 +31,14 @@ pub enum Refusal {
 }
 
 // What the records of a section hold: no fault, or the first one.
-#[derive(Drop)]
+#[derive(Clone, Copy)]
 pub enum Checked {
     Fine,
     Fault(Refusal),
 }
 
 // A section that was read: how many records, where the first starts and what follows the last; or its first fault.
-#[derive(Drop)]
+#[derive(Clone, Copy)]
 pub enum Section {
     Read {
         count: usize,
@@ -46,7 +48,7 @@ pub enum Section {
     Faulty(Refusal),
 }
 
-#[derive(Drop)]
+#[derive(Clone, Copy)]
 pub enum Reading {
     Accepted(Layout),
     Refused(Refusal),

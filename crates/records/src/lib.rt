@@ -3,6 +3,8 @@
 //
 // A parent's record is put before its child's, so each limit is lowered to the one that stands there for the same day; in a new file it is
 // nowhere above that one. The memory beside the lent buffer is a week's limits.
+#![tactic(auto)]
+
 ghost use Rattle.std.specs.Prelude.{◌≡◌, ◌+◌, ◌<◌};
 ghost use Rattle.theory.specs.Bounds.{max_groups};
 ghost use Rattle.claimfile.specs.File.{days};

@@ -7,6 +7,8 @@
 // The table has a cell for each group. A number below 256 is the group's new number. A group without one has in its cell where to
 // go on from it: 256 + its parent, or 65535 at the top. So a walk takes a table of fixed length and numbers only, and its own
 // call comes last, so that a compiler can make it a loop: a deep chain of groups needs no more memory than a short one.
+#![tactic(auto)]
+
 ghost use Rattle.std.specs.Prelude.{◌≡◌, ◌+◌, ◌<◌, length};
 ghost use Rattle.theory.specs.Bounds.{max_groups};
 ghost use Rattle.claimfile.specs.Day.{count_of};

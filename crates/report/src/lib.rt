@@ -3,6 +3,8 @@
 // `write_closed` and `write_refused` write the whole text at the start of `out`, or nothing where `out` is too short, and
 // answer how many bytes were written; no text is empty. Both first put the text into one cell of no use, which tells how
 // long it is (see crate `text`).
+#![tactic(auto)]
+
 ghost use Rattle.std.specs.Prelude.{◌≤◌, length};
 ghost use Rattle.theory.specs.Matroid.{row};
 ghost use Rattle.text.specs.Buffer.{Appended, Room, Written};

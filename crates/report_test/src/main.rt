@@ -1,5 +1,7 @@
 // Writes day A's text, a longer day's with the largest total, the texts of refused files with numbers around the powers of 10, and
 // then what comes of a buffer of just the length of day A's text, of one cell more and of one cell less.
+#![tactic(auto)]
+
 ghost use Rattle.io.specs.Counts.{IsPrefixLen};
 
 use claimfile::Form;

@@ -1,4 +1,6 @@
 // The search: from which fresh nodes a start can be reached by open arcs. It changes label and queue alone. Labels are given here too.
+#![tactic(auto)]
+
 mod scan;
 
 ghost use Rattle.std.specs.Prelude.{◌≢◌, true, ◌+◌, ◌<◌};

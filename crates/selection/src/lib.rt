@@ -2,6 +2,8 @@
 //
 // A selection is one byte a row, and a row is kept where its byte is 1; bytes past the last row are not read. The counts are right
 // whatever the other bytes are.
+#![tactic(auto)]
+
 ghost use Rattle.std.specs.Prelude.{◌≡◌, ◌+◌, ◌≤◌, ◌<◌, length};
 ghost use Rattle.theory.specs.Sum.{pick};
 ghost use Rattle.selection.specs.Selection.{bits, kept_of, Covers, Counted};
@@ -14,7 +16,7 @@ pub const ORDINARY: u8 = 0;
 pub const EARNED: u8 = 1;
 
 // How many rows are kept, and how many of those are of a kind.
-#[derive(Drop)]
+#[derive(Clone, Copy)]
 pub struct Counts {
     pub matched: usize,
     pub kept: usize,

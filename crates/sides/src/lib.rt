@@ -7,6 +7,8 @@
 // is the rank, and the selection fits where each group passed on all that came to it.
 // A stored file's limits are read as they are written: what fits these fits the lowered ones, with the same rank.
 // The cost is rows + groups; the memory is one count for each group of one side, and one for the top.
+#![tactic(auto)]
+
 ghost use Rattle.std.specs.Prelude.{◌≡◌, min, ◌<◌, ◌≤◌};
 ghost use Rattle.theory.specs.Bounds.{max_groups};
 ghost use Rattle.claimfile.specs.Day.{instance_of};
@@ -23,7 +25,7 @@ use theory::MAX_GROUPS;
 pub const CELLS: usize = MAX_GROUPS + 1;
 
 // Whether a selection fits a side, and its rank there, for an accepted file: whether all rows came to the top, and how many did.
-#[derive(Drop)]
+#[derive(Clone, Copy)]
 pub struct Found {
     pub fits: bool,
     pub rank: usize,

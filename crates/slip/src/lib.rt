@@ -2,6 +2,8 @@
 //
 // `write_slip` takes any bytes, in a form, and any buffer. `slip_on` does the same for a file that is accepted with a known layout. The
 // whole slip is written at the buffer's start, or nothing. It has no limit in it, so that a stored file's is the same.
+#![tactic(auto)]
+
 ghost use Rattle.std.specs.Prelude.{◌<◌, eqb};
 ghost use Rattle.text.specs.Buffer.{Appended, Room};
 ghost use Rattle.claimfile.specs.Sound.{Sound};

@@ -4,6 +4,8 @@
 // numbers, and its own call comes last, so that a compiler can make it a loop: a deep chain of groups needs no more memory than a short
 // one. Each of these groups has as many places left as its limit is above its count, which crate `sides` finds. A stored file's limits are
 // read as they are written: what fits these fits the lowered ones, with the same spare places.
+#![tactic(auto)]
+
 ghost use Rattle.std.specs.Prelude.{◌≡◌, ◌+◌, ◌-◌, min, ◌<◌, ◌≤◌, length};
 ghost use Rattle.theory.specs.Bounds.{max_groups};
 ghost use Rattle.claimfile.specs.Day.{instance_of};
@@ -21,7 +23,7 @@ use sides::{CELLS, hangs_at, rise_on};
 use theory::MAX_LIMIT;
 
 // How many further claims like a row would fit beside a selection.
-#[derive(Drop)]
+#[derive(Clone, Copy)]
 pub enum Spare {
     Places(usize),
     Refused(Reason),

@@ -9,6 +9,8 @@
 // last, so that a compiler can make it a loop: a deep chain of groups needs no more memory than a short one.
 //
 // A tally that was not begun by `tallytables` may answer anything, but every call on it ends.
+#![tactic(auto)]
+
 ghost use Rattle.std.specs.Prelude.{◌≡◌, ◌<◌};
 ghost use Rattle.theory.specs.Bounds.{max_rows};
 ghost use Rattle.tally.specs.Walks.{stepped, HasPlace, HasPlaces, Counted, CountedRow, LacksRow, PutTold, TakeTold, node_of};

@@ -1,6 +1,8 @@
 // The beginning of a tally: its tables are filled from an accepted file, cell by cell from the front, and no row is in.
 //
 // A cell is found from the file and from the cells before it: a limit is lowered by the limit of the node above, whose cell stands before.
+#![tactic(auto)]
+
 ghost use Rattle.std.specs.Prelude.{◌≡◌, ◌+◌, ◌<◌, ◌≤◌, length};
 ghost use Rattle.claimfile.specs.Day.{groups_of, instance_of, network_of};
 ghost use Rattle.claimfile.specs.Sound.{Sound};

@@ -4,6 +4,8 @@
 // put next begins there. The answer does not depend on the buffer's length: on a buffer that is too short it still tells how long
 // the text is. So whoever has to write a whole text or none first puts it into one cell of no use, compares the answer with the
 // length of the real buffer, and then puts it there or leaves the buffer alone. The laws `whole` and `short` say what comes of it.
+#![tactic(auto)]
+
 ghost use Rattle.std.specs.Prelude.{◌≡◌, [], ◌∷◌, ◌++◌, ◌-◌};
 ghost use Rattle.theory.specs.Sum.{pick};
 ghost use Rattle.text.specs.Text.{decimal, line, blanks, at_right, spread};

@@ -8,6 +8,8 @@
 // with both a stored file in the old layout. For each call that takes one file, a function with `_as` in its name takes the sort as two
 // bits, week and stored, and makes the answer's numbers; an export is one line over it, and three where a tally is begun. All take their
 // files under the first terms; crate `till_kinds` has the calls for the second.
+#![tactic(auto)]
+
 ghost use Rattle.std.specs.Prelude.{◌≡◌};
 ghost use Rattle.till.specs.Version.{version};
 

@@ -2,6 +2,8 @@
 //
 // They take a new file in the week layout with four kinds of claims, 0 to 3. They stand in an archive of their own, beside that of
 // crate `till`, so that the calls under the first terms keep a solver that is compiled for them alone.
+#![tactic(auto)]
+
 ghost use Rattle.till_kinds.specs.Calls.{FitsAndRankKindsIs, SettleKindsIs};
 
 use answers::{FitsAndRankAnswer, SettleKindsAnswer};

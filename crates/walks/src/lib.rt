@@ -6,6 +6,8 @@
 //
 // A round need not find every path: where it turned one, another round follows. In a round that turned none the nodes that have a pred are
 // those that can be reached from the source, and no open arc leads from them to another node.
+#![tactic(auto)]
+
 mod walk;
 mod ways;
 
@@ -22,7 +24,7 @@ use search::refresh;
 use walk::walk;
 
 // A way on from a node: an open arc to a fresh node, and that node; where there is none, the node itself.
-#[derive(Drop)]
+#[derive(Clone, Copy)]
 pub struct Way {
     pub by: usize,
     pub to: usize,

@@ -1,0 +1,23 @@
+use Prim.Native.Nat.{◌-◌}
+use native.Mathlib.Omega.{arith}
+use lib.ListN.{length}
+use Rattle.scratch.proofs.ClearLaws.{Clearing, clearing-none, clearing-more, clearing-all}
+use Rattle.scratch.proofs.clear.clear_bytes.Goals as goal
+
+pub loop-i-init : goal.loop-i-init
+loop-i-init c = clearing-none c.args.bytes.now
+
+pub bounds-bytes-i : goal.bounds-bytes-i
+bounds-bytes-i c = c.loop-i-test.true
+
+pub overflow_add-i : goal.overflow_add-i
+overflow_add-i c = omega (arith, c.loop-i.invariant.long)
+
+pub loop-i-smaller : goal.loop-i-smaller
+loop-i-smaller c = omega (arith, c.loop-i.invariant.long)
+
+pub loop-i-preserved : goal.loop-i-preserved
+loop-i-preserved c = clearing-more c.args.bytes.now c.loop-i.bytes c.loop-i.i c.loop-i.invariant c.loop-i-test.true
+
+pub returns : goal.returns
+returns c = clearing-all c.args.bytes.now c.loop-i.bytes c.loop-i.i c.loop-i.invariant c.loop-i-test.false
