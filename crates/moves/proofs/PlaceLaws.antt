@@ -45,7 +45,7 @@ use Rattle.prices.proofs.StateLaws.{net-keeps, filled-change, filled_none, fille
 -- Nodes above a node
 
 module _ (G : ℕ) (parent : ℕ → ℕ) where
-  pub upward-up : {u v : ℕ} → v < G → Upward G parent v u → Upward G parent (parent v) u
+  pub upward-up : {v u : ℕ} → v < G → Upward G parent v u → Upward G parent (parent v) u
   upward-up {u} l (here e) = next {u = u} (omega arith) (here (ap parent e))
   upward-up {u} l (next m A) = next {u = u} m (upward-up l A)
 
@@ -53,7 +53,7 @@ module _ (G : ℕ) (parent : ℕ → ℕ) where
   upward-off n (here e) = absurd (n e)
   upward-off n (next m A) = (m, A)
 
-  pub upward-chain : {u e : ℕ} → Down G parent → (x : ℕ) → Upward G parent e u → chain G parent e x ≤ chain G parent u x
+  pub upward-chain : {e u : ℕ} → Down G parent → (x : ℕ) → Upward G parent e u → chain G parent e x ≤ chain G parent u x
   upward-chain d x (here e) = omega (arith, ap (λ n. chain G parent n x) e)
   upward-chain {u} d x (next m A) = omega (arith, chain-in G parent d u x m, upward-chain d x A)
 

@@ -1,0 +1,18 @@
+-- `put_ways` meets its contract: the loop keeps that the cells before g are those of groups without a number (`WaysTo`), in 256
+-- cells; the side has no more groups.
+use mathlib.Core.Path.{◌≡◌}
+use Prim.Native.Nat.{◌-◌, ◌≤◌}
+use native.Mathlib.Omega.{arith}
+use lib.ListN.{length, length-set}
+use borrow.Author.Rules.{rules}
+use Rattle.theory.specs.Bounds.{max_groups}
+use Rattle.claimfile.proofs.DayLaws.{side-most}
+use Rattle.renumber.specs.Canonical.{side_of}
+use Rattle.renumber.proofs.NumberLaws.{WaysTo, ways-step, ways-rowed}
+use Rattle.renumber.proofs.put_ways.Given as goal
+
+abbrev pub invariant-loop-g : goal.invariant-loop-g
+invariant-loop-g l = (l.top ≤ max_groups) × (length l.cells ≡ max_groups) × WaysTo (side_of l.file l.layout l.side) l.cells l.g
+
+abbrev pub decreases-loop-g : goal.decreases-loop-g
+decreases-loop-g l = l.top - l.g

@@ -1,0 +1,24 @@
+-- `slip_on` meets its contract: each way is one case of the outcome. A buffer that is long enough takes the whole slip, whose length is
+-- that of its lines.
+use mathlib.Core.Path.{sym, ◌∙◌}
+use native.Mathlib.Omega.{arith}
+use borrow.Author.Rules.{rules}
+use borrow.Author.Tests.{not-true, not-false}
+use Rattle.text.proofs.BufferLaws.{kept-length}
+use Rattle.slip.proofs.WriteLaws.{on-few, on-short, on-day, on_value, on-written}
+use Rattle.slip.proofs.slip_on.Goals as goal
+
+pub returns-then-selection-rows : goal.returns-then-selection-rows
+returns-then-selection-rows c =
+    let a = c.args in
+    on-few a.file.now a.layout a.selection.now a.out.now (omega arith)
+
+pub returns-then-out-kept : goal.returns-then-out-kept
+returns-then-out-kept c =
+    let a = c.args in
+    on-short a.file.now a.layout a.selection.now a.out.now (omega arith) (omega arith)
+
+pub returns-then-layout-ge-DAYS : goal.returns-then-layout-ge-DAYS
+returns-then-layout-ge-DAYS c =
+    let a = c.args in
+    on-day a.file.now a.layout a.selection.now a.out.now (omega arith) (omega arith) (omega arith)

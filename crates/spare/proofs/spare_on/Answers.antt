@@ -1,0 +1,131 @@
+use Prim.Native.Nat.{◌+◌, ◌-◌, ◌≤◌, ◌<◌, zero-le}
+use native.Mathlib.Omega.{arith}
+use borrow.Author.Tests.{not-true, not-false}
+use borrow.Author.Rules.{rules}
+use Rattle.claimfile.specs.Day.{count_of}
+use Rattle.claimfile.proofs.DayLaws.{side-most}
+use Rattle.sides.proofs.CountLaws.{zeros}
+use Rattle.spare.proofs.SpareLaws.{Sides, Groups, sides-start, groups-start, chain-inside, chain_fits, chain-step, chain-end}
+use Rattle.spare.proofs.SpareLaws.{sides-end, unfit-side, full-group, spares-on}
+use Rattle.spare.proofs.spare_on.Goals as goal
+use Rattle.spare.proofs.spare_on.Goals.{After-fewer-spare, After-wide-g}
+
+pub sides-init : goal.sides-init
+sides-init c =
+    let a = c.args in
+    sides-start a.file.now a.selection.now a.layout a.row
+
+pub rise_on-found-requires : goal.rise_on-found-requires
+rise_on-found-requires c =
+    record {
+      ready = c.requires.ready;
+      zero = zeros 257 (omega arith);
+    }
+
+pub chain_of-groups-requires : goal.chain_of-groups-requires
+chain_of-groups-requires c = (c.requires.ready.sound, c.requires.row_lt_rows, (zeros 257 (omega arith)).long)
+
+pub loop-k-init : goal.loop-k-init
+loop-k-init c =
+    let sides = c.sides in
+    let a = c.args in
+    (zero-le, groups-start a.file.now a.selection.now a.layout a.row sides.side sides.spare _)
+
+pub offset_bounds-list-k : goal.offset_bounds-list-k
+offset_bounds-list-k c = omega (arith, c.chain_of-groups.ensures.most)
+
+pub bounds-list-k : goal.bounds-list-k
+bounds-list-k c = omega (arith, c.chain_of-groups.ensures.most)
+
+-- the group in the next cell of the chain is one of the side
+inside :
+    (c : After-wide-g) →
+    c.wide-g.result < count_of c.args.layout c.sides.side
+inside c =
+    let rose = c.rise_on-found in
+    let a = c.args in
+    chain-inside a.file.now a.selection.now a.layout a.row c.sides.side _ c.chain_of-groups.result
+    c.chain_of-groups.ensures _ rose.result rose.ensures (not-false _ c.if-not-found.left) _ (omega arith) c.wide-g.result
+    c.wide-g.ensures.0
+
+pub group_of-group-requires : goal.group_of-group-requires
+group_of-group-requires c = (c.requires.ready.sound, inside (goal.at.group_of-group-requires c).After-wide-g)
+
+pub offset_bounds-counts-g : goal.offset_bounds-counts-g
+offset_bounds-counts-g c = omega (arith, c.wide-g.ensures.1)
+
+pub bounds-counts-g : goal.bounds-counts-g
+bounds-counts-g c =
+    let a = c.args in
+    omega (arith, inside (goal.at.bounds-counts-g c).After-wide-g, side-most a.file.now a.layout c.requires.ready.sound c.sides.side)
+
+pub fewer-spare-requires : goal.fewer-spare-requires
+fewer-spare-requires c =
+    let rose = c.rise_on-found in
+    let a = c.args in
+    chain_fits a.file.now a.selection.now a.layout a.row c.sides.side _ c.chain_of-groups.result
+    c.chain_of-groups.ensures _ rose.result rose.ensures (not-false _ c.if-not-found.left) _ (omega arith) c.wide-g.result
+    c.wide-g.ensures.0 c.group_of-group.result c.group_of-group.ensures.0
+
+-- the groups up to that one are done
+next :
+    (c : After-fewer-spare) →
+    let sides = c.sides in
+    let a = c.args in
+    Groups a.file.now a.selection.now a.layout a.row sides.side sides.spare c.chain_of-groups.new.list
+    (c.loop-k.k + 1) c.fewer-spare.result
+next c =
+    let loop = c.loop-k in
+    let rose = c.rise_on-found in
+    let sides = c.sides in
+    let a = c.args in
+    rw c.fewer-spare.ensures
+    (chain-step a.file.now a.selection.now a.layout a.row sides.side _ c.chain_of-groups.result c.chain_of-groups.ensures _
+    rose.result rose.ensures (not-false _ c.if-not-found.left) _ (omega arith) c.wide-g.result c.wide-g.ensures.0
+    c.group_of-group.result c.group_of-group.ensures.0 sides.spare loop.spare loop.invariant.1)
+
+pub loop-k-smaller : goal.loop-k-smaller
+loop-k-smaller c = omega arith
+
+pub loop-k-preserved : goal.loop-k-preserved
+loop-k-preserved c = (omega arith, next (goal.at.loop-k-preserved c).After-fewer-spare)
+
+pub sides-smaller : goal.sides-smaller
+sides-smaller c = omega arith
+
+pub sides-preserved : goal.sides-preserved
+sides-preserved c =
+    let loop = c.loop-k in
+    let rose = c.rise_on-found in
+    let sides = c.sides in
+    let a = c.args in
+    chain-end a.file.now a.selection.now a.layout a.row sides.side _ c.chain_of-groups.result c.chain_of-groups.ensures _
+    rose.result rose.ensures (not-false _ c.if-not-found.left) sides.spare loop.spare loop.k (omega arith) sides.inv
+    loop.invariant.1
+
+-- a number is told: with both sides done, of a side that does not fit, of a group without a place
+pub returns-after-sides : goal.returns-after-sides
+returns-after-sides c =
+    let sides = c.sides in
+    let a = c.args in
+    spares-on a.file.now a.selection.now a.layout c.requires.ready a.row c.requires.row_lt_rows
+    (λ i. omega (arith, c.shared_slice_known-1.given i)) sides.spare
+    (sides-end a.file.now a.selection.now a.layout c.requires.ready a.row c.requires.row_lt_rows sides.side sides.spare
+    (omega arith) sides.invariant)
+
+pub returns-then-not-found : goal.returns-then-not-found
+returns-then-not-found c =
+    let a = c.args in
+    spares-on a.file.now a.selection.now a.layout c.requires.ready a.row c.requires.row_lt_rows
+    (λ i. omega (arith, c.shared_slice_known-1.given i)) 0
+    (unfit-side a.file.now a.selection.now a.layout c.requires.ready a.row c.requires.row_lt_rows c.sides.side
+    (c.rise_on-found.ensures.lifted.unfit (not-true _ c.if-not-found.true)))
+
+pub returns-then-spare-eq0 : goal.returns-then-spare-eq0
+returns-then-spare-eq0 c =
+    let a = c.args in
+    spares-on a.file.now a.selection.now a.layout c.requires.ready a.row c.requires.row_lt_rows
+    (λ i. omega (arith, c.shared_slice_known-1.given i)) c.fewer-spare.result
+    (full-group a.file.now a.selection.now a.layout c.requires.ready a.row c.requires.row_lt_rows c.sides.side
+    c.sides.spare _ c.chain_of-groups.result (c.loop-k.k + 1) c.fewer-spare.result c.sides.invariant
+    c.chain_of-groups.ensures (omega (arith, c.loop-k-test.true)) (next (goal.at.returns-then-spare-eq0 c).After-fewer-spare) c.if-spare-eq0.true)

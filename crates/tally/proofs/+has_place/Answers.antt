@@ -1,0 +1,32 @@
+-- `has_place` meets its contract: with u as the measure, a full node ends the walk, so does a node with no smaller one above it, and else
+-- the answer is that of the call for the node above.
+use Prim.Native.Nat.{ℕ, ◌<◌}
+use native.Mathlib.Omega.{arith}
+use borrow.Author.Rules.{rules}
+use Rattle.tally.proofs.WalkLaws.{place_none, place-full, place-top, place_up}
+use Rattle.tally.proofs.+has_place.Goals as goal
+
+pub returns-then-u-ge-NODES : goal.returns-then-u-ge-NODES
+returns-then-u-ge-NODES t c =
+    let a = c.args in
+    place_none a.tables.now a.counts.now a.u c.if-u-ge-NODES.true
+
+pub returns-then-wide : goal.returns-then-wide
+returns-then-wide t c =
+    let a = c.args in
+    place-full a.tables.now a.counts.now a.u (omega arith) (omega arith)
+
+pub returns-then-u-up : goal.returns-then-u-up
+returns-then-u-up t c =
+    let a = c.args in
+    place-top a.tables.now a.counts.now a.u (omega arith) (omega arith) (omega arith) (omega arith)
+
+pub has_place-requires : goal.has_place-requires
+has_place-requires t c = (omega arith, tt)
+
+pub returns : goal.returns
+returns t c =
+    let a = c.args in
+    let up = c.wide-up in
+    place_up a.tables.now a.counts.now a.u (omega arith) (omega arith) (omega arith) up.result up.ensures.0 (omega arith)
+    c.has_place.result c.has_place.ensures

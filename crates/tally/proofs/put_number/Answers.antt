@@ -1,0 +1,43 @@
+-- `put_number` meets its contract. Each way out is a case of `PutTold`.
+use mathlib.Core.Path.{◌≡◌, refl, subst}
+use mathlib.Core.Bool.{Bool, true, false}
+use mathlib.Core.Logic.{inl, inr}
+use native.Mathlib.Omega.{arith}
+use borrow.Author.Rules.{rules}
+use Rattle.tally.specs.Walks.{Lies, HasPlaces}
+use Rattle.tally.proofs.CallLaws.{refused-is, granted-is}
+use Rattle.tally.proofs.put_number.Goals as goal
+use Rattle.tally.proofs.put_number.Goals.{After-has_places, Else-lacks_row}
+
+-- the row is there
+there : (c : Else-lacks_row) → Lies c.args.rows c.args.c
+there c = c.lacks_row.ensures.lies c.if-lacks_row.false
+
+-- what is answered of the row's places, as the test of the answer has it
+asked :
+    (c : After-has_places) (r : Bool) → c.has_places.result ≡ r →
+    (let a = c.args in HasPlaces a.tables.now a.counts.now a.c r)
+asked c r is =
+    let a = c.args in
+    subst (HasPlaces a.tables.now a.counts.now a.c) is c.has_places.ensures
+
+pub returns-then-lacks_row : goal.returns-then-lacks_row
+returns-then-lacks_row c = inl (omega arith, c.lacks_row.ensures.lacks c.if-lacks_row.true)
+
+pub bounds-selection-c : goal.bounds-selection-c
+bounds-selection-c c = (there (goal.at.bounds-selection-c c).Else-lacks_row).cell
+
+pub returns-then-selection-c-ne0 : goal.returns-then-selection-c-ne0
+returns-then-selection-c-ne0 c =
+    inr (inl (omega arith, there (goal.at.returns-then-selection-c-ne0 c).Else-lacks_row, c.if-selection-c-ne0.true))
+
+pub has_places-requires : goal.has_places-requires
+has_places-requires c = (there (goal.at.has_places-requires c).Else-lacks_row).cell
+
+pub returns-then-not-has_places : goal.returns-then-not-has_places
+returns-then-not-has_places c =
+    inr (inr (inl (omega arith, there (goal.at.returns-then-not-has_places c).Else-lacks_row, c.if-selection-c-ne0.left, asked (goal.at.returns-then-not-has_places c).After-has_places false (refused-is _ c.if-not-has_places.true))))
+
+pub returns : goal.returns
+returns c =
+    inr (inr (inr (refl, there (goal.at.returns c).Else-lacks_row, c.if-selection-c-ne0.left, asked (goal.at.returns c).After-has_places true (granted-is _ c.if-not-has_places.false))))

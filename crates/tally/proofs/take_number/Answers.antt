@@ -1,0 +1,25 @@
+-- `take_number` meets its contract. Each way out is a case of `TakeTold`.
+use mathlib.Core.Path.{refl}
+use mathlib.Core.Logic.{inl, inr}
+use native.Mathlib.Omega.{arith}
+use borrow.Author.Rules.{rules}
+use Rattle.tally.specs.Walks.{Lies}
+use Rattle.tally.proofs.take_number.Goals as goal
+use Rattle.tally.proofs.take_number.Goals.{Else-lacks_row}
+
+-- the row is there
+there : (c : Else-lacks_row) → Lies c.args.rows c.args.c
+there c = c.lacks_row.ensures.lies c.if-lacks_row.false
+
+pub returns-then-lacks_row : goal.returns-then-lacks_row
+returns-then-lacks_row c = inl (omega arith, c.lacks_row.ensures.lacks c.if-lacks_row.true)
+
+pub bounds-selection-c : goal.bounds-selection-c
+bounds-selection-c c = (there (goal.at.bounds-selection-c c).Else-lacks_row).cell
+
+pub returns-then-selection-c-eq0 : goal.returns-then-selection-c-eq0
+returns-then-selection-c-eq0 c =
+    inr (inl (omega arith, there (goal.at.returns-then-selection-c-eq0 c).Else-lacks_row, c.if-selection-c-eq0.true))
+
+pub returns : goal.returns
+returns c = inr (inr (refl, there (goal.at.returns c).Else-lacks_row, c.if-selection-c-eq0.false))
