@@ -22,3 +22,17 @@ pub returns-then-layout-ge-DAYS : goal.returns-then-layout-ge-DAYS
 returns-then-layout-ge-DAYS c =
     let a = c.args in
     on-day a.file.now a.layout a.selection.now a.out.now (omega arith) (omega arith) (omega arith)
+
+pub returns-then-not-all_bits : goal.returns-then-not-all_bits
+returns-then-not-all_bits c =
+    let judged = c.all_bits in
+    let a = c.args in
+    on_value a.file.now a.layout a.selection.now a.out.now (omega arith) (omega arith) (omega arith)
+    (sym judged.ensures ∙ c.if-not-all_bits.true)
+
+pub returns : goal.returns
+returns c =
+    let judged = c.all_bits in
+    let a = c.args in
+    on-written a.file.now a.layout a.selection.now a.out.now (omega arith) (omega arith) (omega arith)
+    (sym judged.ensures ∙ c.if-not-all_bits.false) c.requires _ _ c.put_slip.ensures

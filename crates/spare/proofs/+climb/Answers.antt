@@ -1,5 +1,3 @@
--- `climb` meets its contract: with g as the measure, each call puts g behind the groups that the list holds, and those from its parent
--- up, which is smaller, behind it.
 use Prim.Native.Nat.{ℕ, ◌<◌}
 use native.Mathlib.Omega.{arith}
 use lib.ListN.{length-set}

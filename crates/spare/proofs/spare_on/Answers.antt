@@ -45,7 +45,7 @@ inside c =
     let rose = c.rise_on-found in
     let a = c.args in
     chain-inside a.file.now a.selection.now a.layout a.row c.sides.side _ c.chain_of-groups.result
-    c.chain_of-groups.ensures _ rose.result rose.ensures (not-false _ c.if-not-found.left) _ (omega arith) c.wide-g.result
+    c.chain_of-groups.ensures _ rose.result rose.ensures (not-false _ c.if-not-found.false) _ (omega arith) c.wide-g.result
     c.wide-g.ensures.0
 
 pub group_of-group-requires : goal.group_of-group-requires
@@ -58,14 +58,6 @@ pub bounds-counts-g : goal.bounds-counts-g
 bounds-counts-g c =
     let a = c.args in
     omega (arith, inside (goal.at.bounds-counts-g c).After-wide-g, side-most a.file.now a.layout c.requires.ready.sound c.sides.side)
-
-pub fewer-spare-requires : goal.fewer-spare-requires
-fewer-spare-requires c =
-    let rose = c.rise_on-found in
-    let a = c.args in
-    chain_fits a.file.now a.selection.now a.layout a.row c.sides.side _ c.chain_of-groups.result
-    c.chain_of-groups.ensures _ rose.result rose.ensures (not-false _ c.if-not-found.left) _ (omega arith) c.wide-g.result
-    c.wide-g.ensures.0 c.group_of-group.result c.group_of-group.ensures.0
 
 -- the groups up to that one are done
 next :
@@ -81,7 +73,7 @@ next c =
     let a = c.args in
     rw c.fewer-spare.ensures
     (chain-step a.file.now a.selection.now a.layout a.row sides.side _ c.chain_of-groups.result c.chain_of-groups.ensures _
-    rose.result rose.ensures (not-false _ c.if-not-found.left) _ (omega arith) c.wide-g.result c.wide-g.ensures.0
+    rose.result rose.ensures (not-false _ c.if-not-found.false) _ (omega arith) c.wide-g.result c.wide-g.ensures.0
     c.group_of-group.result c.group_of-group.ensures.0 sides.spare loop.spare loop.invariant.1)
 
 pub loop-k-smaller : goal.loop-k-smaller
@@ -93,16 +85,6 @@ loop-k-preserved c = (omega arith, next (goal.at.loop-k-preserved c).After-fewer
 pub sides-smaller : goal.sides-smaller
 sides-smaller c = omega arith
 
-pub sides-preserved : goal.sides-preserved
-sides-preserved c =
-    let loop = c.loop-k in
-    let rose = c.rise_on-found in
-    let sides = c.sides in
-    let a = c.args in
-    chain-end a.file.now a.selection.now a.layout a.row sides.side _ c.chain_of-groups.result c.chain_of-groups.ensures _
-    rose.result rose.ensures (not-false _ c.if-not-found.left) sides.spare loop.spare loop.k (omega arith) sides.inv
-    loop.invariant.1
-
 -- a number is told: with both sides done, of a side that does not fit, of a group without a place
 pub returns-after-sides : goal.returns-after-sides
 returns-after-sides c =
@@ -112,14 +94,6 @@ returns-after-sides c =
     (λ i. omega (arith, c.shared_slice_known-1.given i)) sides.spare
     (sides-end a.file.now a.selection.now a.layout c.requires.ready a.row c.requires.row_lt_rows sides.side sides.spare
     (omega arith) sides.invariant)
-
-pub returns-then-not-found : goal.returns-then-not-found
-returns-then-not-found c =
-    let a = c.args in
-    spares-on a.file.now a.selection.now a.layout c.requires.ready a.row c.requires.row_lt_rows
-    (λ i. omega (arith, c.shared_slice_known-1.given i)) 0
-    (unfit-side a.file.now a.selection.now a.layout c.requires.ready a.row c.requires.row_lt_rows c.sides.side
-    (c.rise_on-found.ensures.lifted.unfit (not-true _ c.if-not-found.true)))
 
 pub returns-then-spare-eq0 : goal.returns-then-spare-eq0
 returns-then-spare-eq0 c =

@@ -1,4 +1,3 @@
--- `count_from` meets its contract: with u as the measure, the count of u changes by one step, and those above it are counted by the call.
 use Prim.Native.Nat.{ℕ, ◌<◌}
 use native.Mathlib.Omega.{arith}
 use borrow.Author.Rules.{rules}

@@ -33,11 +33,3 @@ returns-then-selection-c-ne0 c =
 
 pub has_places-requires : goal.has_places-requires
 has_places-requires c = (there (goal.at.has_places-requires c).Else-lacks_row).cell
-
-pub returns-then-not-has_places : goal.returns-then-not-has_places
-returns-then-not-has_places c =
-    inr (inr (inl (omega arith, there (goal.at.returns-then-not-has_places c).Else-lacks_row, c.if-selection-c-ne0.left, asked (goal.at.returns-then-not-has_places c).After-has_places false (refused-is _ c.if-not-has_places.true))))
-
-pub returns : goal.returns
-returns c =
-    inr (inr (inr (refl, there (goal.at.returns c).Else-lacks_row, c.if-selection-c-ne0.left, asked (goal.at.returns c).After-has_places true (granted-is _ c.if-not-has_places.false))))

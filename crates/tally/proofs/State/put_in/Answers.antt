@@ -7,25 +7,13 @@ use Rattle.tally.proofs.CallLaws.{put-lies, put_refused, put-done}
 use Rattle.tally.proofs.State.put_in.Goals as goal
 use Rattle.tally.proofs.State.put_in.Goals.{After-put_number-put_refusal}
 
--- the row is there
-there : (c : After-put_number-put_refusal) → c.put_number-put_refusal.result ≡ 0 → c.args.row < 512
-there c e =
-    let a = c.args in
-    (put-lies a.tables.now a.t1 a.row c.put_number-put_refusal.result c.put_number-put_refusal.ensures e).cell
-
-pub count_row-requires : goal.count_row-requires
-count_row-requires c = there (goal.at.count_row-requires c).After-put_number-put_refusal (omega arith)
-
-pub bounds-self-c : goal.bounds-self-c
-bounds-self-c c = there (goal.at.bounds-self-c c).After-put_number-put_refusal (omega arith)
-
 pub returns-then-put_refusal-eq0 : goal.returns-then-put_refusal-eq0
 returns-then-put_refusal-eq0 c =
     let a = c.args in
-    put-done a.tables.now a.t1 a.row c.put_number-put_refusal.result c.put_number-put_refusal.ensures (omega arith) _
+    put-done a.tables.now a.self a.row c.put_number-put_refusal.result c.put_number-put_refusal.ensures (omega arith) _
     c.count_row.ensures _ (omega arith)
 
 pub returns-else-put_refusal-eq0 : goal.returns-else-put_refusal-eq0
 returns-else-put_refusal-eq0 c =
     let a = c.args in
-    put_refused a.tables.now a.t1 a.row c.put_number-put_refusal.result c.put_number-put_refusal.ensures c.if-put_refusal-eq0.false
+    put_refused a.tables.now a.self a.row c.put_number-put_refusal.result c.put_number-put_refusal.ensures c.if-put_refusal-eq0.false

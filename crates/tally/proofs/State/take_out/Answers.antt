@@ -7,25 +7,13 @@ use Rattle.tally.proofs.CallLaws.{take-lies, take-refused, take_done}
 use Rattle.tally.proofs.State.take_out.Goals as goal
 use Rattle.tally.proofs.State.take_out.Goals.{After-take_number-take_refusal}
 
--- the row is there
-there : (c : After-take_number-take_refusal) → c.take_number-take_refusal.result ≡ 0 → c.args.row < 512
-there c e =
-    let a = c.args in
-    (take-lies a.tables.now a.t1 a.row c.take_number-take_refusal.result c.take_number-take_refusal.ensures e).cell
-
-pub count_row-requires : goal.count_row-requires
-count_row-requires c = there (goal.at.count_row-requires c).After-take_number-take_refusal (omega arith)
-
-pub bounds-self-c : goal.bounds-self-c
-bounds-self-c c = there (goal.at.bounds-self-c c).After-take_number-take_refusal (omega arith)
-
 pub returns-then-take_refusal-eq0 : goal.returns-then-take_refusal-eq0
 returns-then-take_refusal-eq0 c =
     let a = c.args in
-    take_done a.tables.now a.t1 a.row c.take_number-take_refusal.result c.take_number-take_refusal.ensures (omega arith) _
+    take_done a.tables.now a.self a.row c.take_number-take_refusal.result c.take_number-take_refusal.ensures (omega arith) _
     c.count_row.ensures _ (omega arith)
 
 pub returns-else-take_refusal-eq0 : goal.returns-else-take_refusal-eq0
 returns-else-take_refusal-eq0 c =
     let a = c.args in
-    take-refused a.tables.now a.t1 a.row c.take_number-take_refusal.result c.take_number-take_refusal.ensures c.if-take_refusal-eq0.false
+    take-refused a.tables.now a.self a.row c.take_number-take_refusal.result c.take_number-take_refusal.ensures c.if-take_refusal-eq0.false

@@ -1,0 +1,20 @@
+-- The step gives a state at the lower toll (`stepped-state`), the filling keeps it, and the lists are those of its prices.
+use mathlib.Core.Path.{◌∙◌}
+use Rattle.prices.proofs.ReadyLaws.{state-linkable}
+use Rattle.solver.proofs.TollLaws.{stepped-state, moved-step}
+use borrow.Author.Rules.{rules}
+use Rattle.solver.proofs.next_toll.Goals as goal
+
+pub refresh-requires : goal.refresh-requires
+refresh-requires c = c.requires.state.room
+
+pub fill_under_toll-requires : goal.fill_under_toll-requires
+fill_under_toll-requires c = rw c.with_toll-next.ensures (stepped-state c.reprice.ensures c.refresh.ensures)
+
+pub link-requires : goal.link-requires
+link-requires c = state-linkable c.fill_under_toll.ensures.filled.state
+
+pub returns : goal.returns
+returns c =
+    moved-step c.reprice.ensures c.refresh.ensures c.requires
+    (rw c.with_toll-next.ensures at c.fill_under_toll.ensures) (rw c.with_toll-next.ensures at c.link.ensures)

@@ -1,0 +1,34 @@
+-- In a round that turned no path its one walk began at the first items, so that no path is left (`round-none`); else more rows are kept,
+-- and every node is made fresh for the next round (`round-path`).
+use mathlib.Core.Path.{◌∙◌}
+use Rattle.walks.proofs.RoundLaws.{rewound-begun, rewound-ahead, round-path, round-none}
+use Rattle.walks.proofs.turn_more.Goals as goal
+
+pub rewind-requires : goal.rewind-requires
+rewind-requires c = c.requires.state.room
+
+pub turn_next-requires : goal.turn_next-requires
+turn_next-requires c =
+    record {
+      begun = rewound-begun c.requires c.rewind.ensures;
+      ahead = rewound-ahead c.requires c.rewind.ensures;
+    }
+
+pub turn_all-requires : goal.turn_all-requires
+turn_all-requires c =
+    let X = c.turn_next.ensures.path c.if-turn_next.true in
+    record {
+      begun = X.begun;
+      ahead = X.ahead;
+    }
+
+pub refresh-requires : goal.refresh-requires
+refresh-requires c = c.turn_all.ensures.filled.state.room
+
+pub returns-then-turn_next : goal.returns-then-turn_next
+returns-then-turn_next c =
+    round-path c.requires c.rewind.ensures c.turn_next.ensures c.if-turn_next.true
+    c.turn_all.ensures c.refresh.ensures
+
+pub returns : goal.returns
+returns c = round-none c.requires c.rewind.ensures c.turn_next.ensures c.if-turn_next.false
