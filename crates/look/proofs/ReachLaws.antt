@@ -315,7 +315,7 @@ module _ (back : Bool) (r : Residual) (S spare : ℕ → ℕ) where
         {label queue label' queue' : ℕ → ℕ} {h n n' u e : ℕ} → Reach back r S spare (pred_in b label) queue h n →
         Passed back r S spare b label queue n label' queue' n' u e → Grew back r S spare b label queue n label' queue' h n'
     passed-grew {label} {n = n} R T =
-        rw (T.Label-same, T.same) (record {
+        rw (T.label_same, T.same) (record {
           grow = le_refl n;
           keep = T.queue-same;
           spread = spread_none b label;

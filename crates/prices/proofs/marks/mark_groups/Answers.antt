@@ -1,0 +1,38 @@
+use mathlib.Core.List.{List}
+use Rattle.scratch.specs.Memory.{memory}
+use borrow.Author.Rules.{rules}
+use lib.ListN.{length}
+use mathlib.Core.Path.{◌≡◌, refl}
+use Prim.Native.Nat.{ℕ, ◌-◌, ◌≤◌}
+use native.Mathlib.Omega.{arith}
+use Rattle.prices.specs.Marks.{Marking}
+use Rattle.prices.proofs.MarkLaws.{priced-long, marking-none, marking-group}
+use Rattle.prices.proofs.marks.mark_groups.Goals as goal
+use Rattle.prices.proofs.marks.mark_groups.Goals.{Start}
+
+-- the memory at entry
+abbrev sheet₀ : Start → List ℕ
+sheet₀ S = memory S.args.wide S.args.sheet.now S.args.sheet64.now
+
+abbrev scratch₀ : Start → List ℕ
+scratch₀ S = memory S.args.wide S.args.scratch.now S.args.scratch64.now
+
+pub loop-v-init : goal.loop-v-init
+loop-v-init c = (
+  (omega arith, marking-none c.args.sh (sheet₀ (goal.at.loop-v-init c).Start) (scratch₀ (goal.at.loop-v-init c).Start)),
+  (refl, refl),
+)
+
+pub overflow_sub-v : goal.overflow_sub-v
+overflow_sub-v c = omega (arith, c.loop-v-test.true)
+
+pub mark_group-requires : goal.mark_group-requires
+mark_group-requires c =
+    record {
+      priced = priced-long c.args.sh (sheet₀ (goal.at.mark_group-requires c).Start) (scratch₀ (goal.at.mark_group-requires c).Start) (memory c.args.wide c.loop-v.sheet c.loop-v.sheet64)
+          c.loop-v.invariant.0.1.long c.requires;
+      v_lt_groups = omega (arith, c.loop-v-test.true, c.loop-v.invariant.0.0);
+    }
+
+pub loop-v-smaller : goal.loop-v-smaller
+loop-v-smaller c = omega (arith, c.loop-v-test.true)

@@ -1,0 +1,9 @@
+-- The arc down to group v runs from its parent to v and the one up the other way (`along-down`, `along-up`); both are looked at, one after the
+-- other (`groups-one`).
+use native.Mathlib.Omega.{arith}
+use Rattle.prices.proofs.StepLaws.{along-down, along-up, groups-one}
+use borrow.Author.Rules.{rules}
+use Rattle.prices.proofs.step.lower_group.Goals as goal
+
+pub returns : goal.returns
+returns c = groups-one c.lower-below.ensures c.lower.ensures
