@@ -46,3 +46,12 @@ set_mark-requires c =
             (memory-low c.args.wide c.args.sheet.now c.args.sheet64.now (λ j. omega (arith, c.slice_known-1.given j))),
       );
     }
+
+pub returns : goal.returns
+returns c =
+    rw
+    (group-left (net_of c.args.sh (scratch₀ (goal.at.returns c).Start)) (price_of c.args.sh (sheet₀ (goal.at.returns c).Start)) c.above-left.result
+    c.price.result c.price-base.result c.above-left.ensures c.args.v
+    c.parent-up.result c.price.ensures c.price-base.ensures
+    c.parent-up.ensures)
+    at c.set_mark.ensures

@@ -36,3 +36,21 @@ mark_group-requires c =
 
 pub loop-v-smaller : goal.loop-v-smaller
 loop-v-smaller c = omega (arith, c.loop-v-test.true)
+
+pub loop-v-preserved : goal.loop-v-preserved
+loop-v-preserved c = (
+  let some = c.loop-v-test.true in (
+    omega (arith, c.loop-v.invariant.0.0),
+    marking-group c.args.sh (sheet₀ (goal.at.loop-v-preserved c).Start) (scratch₀ (goal.at.loop-v-preserved c).Start) (memory c.args.wide c.loop-v.sheet c.loop-v.sheet64) c.loop-v.v
+        (c.loop-v.v - 1)
+        (omega (arith, some)) c.requires (omega (arith, some, c.loop-v.invariant.0.0)) c.loop-v.invariant.0.1
+        (memory c.args.wide c.mark_group.new.sheet c.mark_group.new.sheet64)
+        c.mark_group.ensures,
+  ),
+  (search rules, search rules),
+)
+
+pub returns : goal.returns
+returns c =
+    let e : c.loop-v.v ≡ 0 = omega (arith, c.loop-v-test.false) in
+    rw e at c.loop-v.invariant.0.1

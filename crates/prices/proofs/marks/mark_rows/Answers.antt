@@ -36,3 +36,20 @@ overflow_add-c c = omega (arith, c.loop-c-test.true, c.requires.room.few.rows)
 
 pub loop-c-smaller : goal.loop-c-smaller
 loop-c-smaller c = omega (arith, c.loop-c-test.true)
+
+pub loop-c-preserved : goal.loop-c-preserved
+loop-c-preserved c = (
+  (
+    omega (arith, c.loop-c-test.true),
+    marking-row c.args.sh (sheet₀ (goal.at.loop-c-preserved c).Start) (scratch₀ (goal.at.loop-c-preserved c).Start) (memory c.args.wide c.loop-c.sheet c.loop-c.sheet64) c.loop-c.c
+        c.loop-c.invariant.0.1
+        (memory c.args.wide c.mark_row.new.sheet c.mark_row.new.sheet64)
+        c.mark_row.ensures,
+  ),
+  (search rules, search rules),
+)
+
+pub returns : goal.returns
+returns c =
+    let e : c.loop-c.c ≡ c.args.sh.rows = omega (arith, c.loop-c-test.false, c.loop-c.invariant.0.0) in
+    rw e at c.loop-c.invariant.0.1

@@ -16,3 +16,17 @@ scratch₀ S = memory S.args.wide S.args.scratch.now S.args.scratch64.now
 
 pub mark_rows-requires : goal.mark_rows-requires
 mark_rows-requires c = c.requires
+
+pub mark_groups-requires : goal.mark_groups-requires
+mark_groups-requires c =
+    priced-long c.args.sh (sheet₀ (goal.at.mark_groups-requires c).Start) (scratch₀ (goal.at.mark_groups-requires c).Start)
+    (memory c.args.wide c.mark_rows.new.sheet c.mark_rows.new.sheet64)
+    c.mark_rows.ensures.long c.requires
+
+pub returns : goal.returns
+returns c =
+    marking-both c.args.sh (sheet₀ (goal.at.returns c).Start) (scratch₀ (goal.at.returns c).Start)
+    (memory c.args.wide c.mark_rows.new.sheet c.mark_rows.new.sheet64) c.args.sh.rows
+    c.mark_rows.ensures
+    (memory c.args.wide c.mark_groups.new.sheet c.mark_groups.new.sheet64)
+    c.mark_groups.ensures

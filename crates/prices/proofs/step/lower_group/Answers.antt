@@ -5,5 +5,21 @@ use Rattle.prices.proofs.StepLaws.{along-down, along-up, groups-one}
 use borrow.Author.Rules.{rules}
 use Rattle.prices.proofs.step.lower_group.Goals as goal
 
+pub lower-below-requires : goal.lower-below-requires
+lower-below-requires c =
+    record {
+      ready = c.requires.ready;
+      e_bound = omega (arith, c.requires.v_lt_groups);
+      along_of = along-down _ _ c.requires.ready.formed c.requires.v_lt_groups c.parent-p.ensures;
+    }
+
+pub lower-requires : goal.lower-requires
+lower-requires c =
+    record {
+      ready = c.requires.ready;
+      e_bound = omega (arith, c.requires.v_lt_groups);
+      along_of = along-up _ _ c.requires.ready.formed c.requires.v_lt_groups c.parent-p.ensures;
+    }
+
 pub returns : goal.returns
 returns c = groups-one c.lower-below.ensures c.lower.ensures

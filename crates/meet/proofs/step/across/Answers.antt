@@ -1,0 +1,19 @@
+-- The two nodes of a row are read from their tables.
+use mathlib.Core.Path.{◌∙◌}
+use Rattle.scratch.specs.Memory.{memory}
+use Rattle.scratch.specs.Map.{card_of, shop_of}
+use Rattle.look.proofs.StepLaws.{pick_yes, pick_no}
+use borrow.Author.Rules.{rules}
+use Rattle.meet.proofs.step.across.Goals as goal
+
+pub returns-then-shops : goal.returns-then-shops
+returns-then-shops c =
+    c.card.ensures ∙ pick_yes _
+    (shop_of c.args.sh (memory c.args.wide c.args.scratch.now c.args.scratch64.now)
+    c.args.c) c.if-shops.true
+
+pub returns : goal.returns
+returns c =
+    c.shop.ensures ∙ pick_no
+    (card_of c.args.sh (memory c.args.wide c.args.scratch.now c.args.scratch64.now)
+    c.args.c) _ c.if-shops.false
