@@ -2,7 +2,7 @@
  * Whether head office accepts a closing: a claim file with a choice and a sheet of marks, for a day. Another maker tries closings with it
  * before sending them.
  *
- *     gcc -O2 -Ic c/accept.c target/staticlib/libtill.a -o accept
+ *     gcc -O2 -Ic c/accept.c crates/till/out/libtill.a -o accept
  *     ./accept FILE CHOICE SHEET DAY              a new file in the week layout, for a day from 0 to 6
  *     ./accept FILE CHOICE SHEET DAY stored       a stored file; `old` and `old_stored` for files in the old layout
  *

@@ -2,7 +2,7 @@
  * A small till: it settles one claim file, a new one in the week layout, by the limits of a day, and prints which rows are kept and, where
  * an earned row is turned down, which limits to raise.
  *
- *     gcc -O2 -Ic c/example.c target/staticlib/libtill.a -o example
+ *     gcc -O2 -Ic c/example.c crates/till/out/libtill.a -o example
  *     ./example < samples/week.claims         settles it for day 0
  *     ./example 5 < samples/week.claims       settles it for day 5
  *

@@ -2,7 +2,7 @@
  * A small till for several counters under one oven: it settles their claim files together by the limits of a day, and prints which rows of
  * each counter are kept. c/example.c is the one for a single counter, and says how to read C.
  *
- *     gcc -O2 -Ic c/example_joined.c target/staticlib/libtill.a -o example_joined
+ *     gcc -O2 -Ic c/example_joined.c crates/till/out/libtill.a -o example_joined
  *     ./example_joined 9 0 samples/oven/counter_*.claims       an oven for 9 rows, on day 0: all counters have room
  *     ./example_joined 5 0 samples/oven/counter_*.claims       an oven for 5 rows
  *

@@ -2,7 +2,7 @@
  * A small till of the second terms: it settles one claim file with four kinds of claims by the limits of a day, and prints which rows are
  * kept and how many of each kind. c/example.c is the one of the first terms, and says how to read C.
  *
- *     gcc -O2 -Ic c/example_kinds.c target/staticlib/libtill_kinds.a -o example_kinds
+ *     gcc -O2 -Ic c/example_kinds.c crates/till_kinds/out/libtill_kinds.a -o example_kinds
  *     ./example_kinds < samples/kinds/four.claims         settles it for day 0
  *     ./example_kinds 6 < samples/kinds/four.claims       settles it for day 6
  *

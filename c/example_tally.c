@@ -2,7 +2,7 @@
  * A small till during one day: claims come in and are withdrawn, and its screen shows the count of each group beside the limit. At the end
  * the day is settled. c/example.c says how to read C.
  *
- *     gcc -O2 -Ic c/example_tally.c target/staticlib/libtill.a -o example_tally
+ *     gcc -O2 -Ic c/example_tally.c crates/till/out/libtill.a -o example_tally
  *     ./example_tally samples/week.claims 0 < samples/tally/claims.lines       on day 0; each line is `in` or `out` and a row
  *
  * The exit status is 0 where the day is settled, 1 where the file is refused, 2 where it cannot be read and 3 where a word is wrong.

@@ -1,14 +1,14 @@
 // The program: it settles the claim file on standard input and prints the result.
 #![tactic(auto)]
 
-ghost use Rattle.std.specs.Prelude.{◌≡◌, ◌+◌, ◌*◌, length};
+ghost use Rattle.std.specs.Prelude.{◌≡◌, ◌+◌, ◌*◌, ◌≤◌, length};
 ghost use Rattle.theory.specs.Bounds.{max_groups, max_rows};
 ghost use Rattle.claimwriter.specs.Written.{length_for};
 ghost use Rattle.closing.specs.Settle.{cells_for};
 ghost use Rattle.printout.specs.Printout.{longest_text};
 
-use libc::{STDIN_FILENO, STDOUT_FILENO};
 use printout::print_day;
+use std::io::Read;
 use theory::{MAX_GROUPS, MAX_ROWS};
 
 // The lengths that the largest day needs.
@@ -50,21 +50,51 @@ fn text_buffer() -> [u8; 9600]
     [0; 9600]
 }
 
-fn show(file: &[u8], choice: &mut [u8], sheet: &mut [u32], scratch: &mut [u32], text: &mut [u8]) {
-    let length = print_day(file, choice, sheet, scratch, text);
-    io::write_all(STDOUT_FILENO, &text[..length]);
+// Reads until the buffer is full, the input ends or a read fails, and answers how many bytes it put at the buffer's start.
+fn read_full<R: Read>(input: &mut R, buffer: &mut [u8]) -> usize
+    ensures { result ≤ length buffer.new }
+{
+    let mut done = 0;
+    while done < buffer.len() {
+        let n = input.read(&mut buffer[done..]).unwrap_or(0);
+        if n == 0 {
+            break;
+        }
+        done += n;
+    }
+    done
 }
 
-fn run(file: &[u8]) {
+// Settles a file in the lent buffers and writes the text. A write that fails is not told: the program's exit status says nothing.
+fn show<P: Print>(
+    output: &P,
+    file: &[u8],
+    choice: &mut [u8],
+    sheet: &mut [u32],
+    scratch: &mut [u32],
+    text: &mut [u8],
+) {
+    let length = print_day(file, choice, sheet, scratch, text);
+    let _ = output.write_all(&text[..length]);
+}
+
+fn run<P: Print>(output: &P, file: &[u8]) {
     let mut choice = choice_buffer();
     let mut sheet = sheet_buffer();
     let mut scratch = scratch_buffer();
     let mut text = text_buffer();
-    show(file, &mut choice, &mut sheet, &mut scratch, &mut text);
+    show(
+        output,
+        file,
+        &mut choice,
+        &mut sheet,
+        &mut scratch,
+        &mut text,
+    );
 }
 
-pub fn settle_stdin() {
+pub fn settle_stdin<R: Input + Print>(rt: &R) {
     let mut file = file_buffer();
-    let length = io::read_full(STDIN_FILENO, &mut file);
-    run(&file[..length]);
+    let length = read_full(&mut rt.reader(), &mut file);
+    run(rt, &file[..length]);
 }

@@ -2,11 +2,12 @@
 // then what comes of a buffer of just the length of day A's text, of one cell more and of one cell less.
 #![tactic(auto)]
 
-ghost use Rattle.io.specs.Counts.{IsPrefixLen};
+ghost use Rattle.std.specs.Prelude.{◌≡◌, ◌≤◌, length, take};
 
 use claimfile::Form;
 use reader::{Reading, read};
 use report::{write_closed, write_refused};
+use std::io;
 use text::put_word;
 
 // The text of a closed file; nothing where the file is turned away or the choice is too short.
@@ -18,7 +19,8 @@ fn text_of(
     choice: &[u8],
     out: &mut [u8],
 ) -> usize
-    ensures { IsPrefixLen result out.new }
+    ensures within { result ≤ length out.new }
+    ensures counted { result ≡ length (take result out.new) }
 {
     let reading = read(
         file,
@@ -39,7 +41,8 @@ fn text_of(
 
 // Day A: two cards and two shops of limit 1 at the top, and the claims c0/s0 e, c0/s1 o, c1/s0 o. Rows 0 and 1 are kept.
 fn day(out: &mut [u8]) -> usize
-    ensures { IsPrefixLen result out.new }
+    ensures within { result ≤ length out.new }
+    ensures counted { result ≡ length (take result out.new) }
 {
     text_of(
         b"\x02\x00\xff\xff\x01\x00\xff\xff\x01\x00\x02\x00\xff\xff\x01\x00\xff\xff\x01\x00\x03\x00\x00\x00\x00\x00\x01\x00\x00\x01\x00\x00\x01\x00\x00\x00\x00",
@@ -51,14 +54,14 @@ fn day(out: &mut [u8]) -> usize
     )
 }
 
-fn closed() {
+fn closed<P: Print>(output: &P) -> io::Result<()> {
     let mut out = [0u8; 128];
     let n = day(&mut out);
-    io::write_all(1, &out[..n]);
+    output.write_all(&out[..n])
 }
 
 // One card, one shop and twelve rows, the first of them earned; every byte of the others is 0. Row 0 alone is kept.
-fn largest() {
+fn largest<P: Print>(output: &P) -> io::Result<()> {
     let mut file = [0u8; 74];
     put_word(
         0,
@@ -69,66 +72,58 @@ fn largest() {
     choice[0] = 1;
     let mut out = [0u8; 512];
     let n = text_of(&file, 65535, 100, 18446744073709551615, &choice, &mut out);
-    io::write_all(1, &out[..n]);
+    output.write_all(&out[..n])
 }
 
-fn refused(number: u32) {
+fn refused<P: Print>(output: &P, number: u32) -> io::Result<()> {
     let mut out = [0u8; 32];
     let n = write_refused(number, &mut out);
-    io::write_all(1, &out[..n]);
+    output.write_all(&out[..n])
 }
 
-fn refusals() {
-    refused(3);
-    refused(0);
-    refused(9);
-    refused(10);
-    refused(99);
-    refused(100);
-    refused(65535);
-    refused(4294967295);
+fn refusals<P: Print>(output: &P) -> io::Result<()> {
+    refused(output, 3)?;
+    refused(output, 0)?;
+    refused(output, 9)?;
+    refused(output, 10)?;
+    refused(output, 99)?;
+    refused(output, 100)?;
+    refused(output, 65535)?;
+    refused(output, 4294967295)
 }
 
-fn say(word: &[u8], n: u64) {
-    io::write_all(1, word);
-    io::print_decimal(1, n);
-}
-
-fn wide(x: u8) -> u64 {
-    x as u64
-}
-
-fn cell(s: &[u8], i: usize) -> u64 {
+fn cell(s: &[u8], i: usize) -> u8 {
     if i < s.len() {
-        return wide(s[i]);
+        return s[i];
     }
     0
 }
 
 // The buffer's length, the answer, and the cells at its start and at its end.
-fn told(n: usize, out: &[u8]) {
-    say(b"cells ", out.len() as u64);
-    say(b" written ", n as u64);
-    say(b" first ", cell(out, 0));
-    say(b" at 75 ", cell(out, 75));
-    say(b" at 76 ", cell(out, 76));
-    say(b" at 77 ", cell(out, 77));
-    io::write_all(1, b"\n");
+fn told<P: Print>(output: &P, n: usize, out: &[u8]) -> io::Result<()> {
+    let cells = out.len();
+    let first = cell(out, 0);
+    let at_75 = cell(out, 75);
+    let at_76 = cell(out, 76);
+    let at_77 = cell(out, 77);
+    println!(output;
+        "cells {cells} written {n} first {first} at 75 {at_75} at 76 {at_76} at 77 {at_77}"
+    )
 }
 
-fn probe(out: &mut [u8]) {
+fn probe<P: Print>(output: &P, out: &mut [u8]) -> io::Result<()> {
     let n = day(out);
-    told(n, out);
+    told(output, n, out)
 }
 
-fn main() {
-    closed();
-    largest();
-    refusals();
+fn main(rt: HostRuntime) -> io::Result<()> {
+    closed(&rt)?;
+    largest(&rt)?;
+    refusals(&rt)?;
     let mut exact = [7u8; 77];
-    probe(&mut exact);
+    probe(&rt, &mut exact)?;
     let mut longer = [7u8; 78];
-    probe(&mut longer);
+    probe(&rt, &mut longer)?;
     let mut short = [7u8; 76];
-    probe(&mut short);
+    probe(&rt, &mut short)
 }

@@ -1,6 +1,6 @@
 // Settles the claim file on standard input and prints the result.
 #![tactic(auto)]
 
-fn main() {
-    front::settle_stdin();
+fn main(rt: HostRuntime) {
+    front::settle_stdin(&rt);
 }

@@ -1,6 +1,6 @@
 // The program `settle`, run on a file that is turned away.
 #![tactic(auto)]
 
-fn main() {
-    front::settle_stdin();
+fn main(rt: HostRuntime) {
+    front::settle_stdin(&rt);
 }
