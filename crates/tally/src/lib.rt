@@ -37,7 +37,7 @@ pub const CELLS: usize = 2 * NODES + 2 * ROWS;
 
 // How many groups and rows there are, how many of the rows that are in count at each node, and 1 for each row that is in.
 #[repr(C)]
-#[derive(Drop)]
+#[derive(Clone, Copy)]
 pub struct State {
     pub cards: usize,
     pub shops: usize,

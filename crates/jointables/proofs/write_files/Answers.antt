@@ -1,6 +1,7 @@
 use mathlib.Core.Path.{◌≡◌, refl, ◌∙◌}
 use Prim.Native.Nat.{ℕ, ◌+◌, ◌-◌, ◌≤◌}
 use native.Mathlib.Omega.{arith}
+use borrow.Author.Rules.{rules}
 use lib.ListN.{length}
 use Rattle.theory.specs.Sum.{sum}
 use Rattle.theory.proofs.SumLaws.{sum-next}
@@ -43,14 +44,40 @@ overflow_add-end c = omega (arith, within (goal.at.overflow_add-end c).After-len
 pub slice_bounds-write_member-count : goal.slice_bounds-write_member-count
 slice_bounds-write_member-count c = omega arith
 
+pub slice_bounds-write_member-end : goal.slice_bounds-write_member-end
+slice_bounds-write_member-end c =
+    let inside = within (goal.at.slice_bounds-write_member-end c).After-length_at in
+    search rules
+
+pub write_member-spot-requires : goal.write_member-spot-requires
+write_member-spot-requires c =
+    let a = c.args in
+    next-stands a.day a.files.now a.lengths.now a.sh a.scratch.now c.requires c.loop-k.k (omega arith) _
+    (room-keeps c.loop-k.invariant.3 c.requires.room) _ c.loop-k.spot
+    (member-slice a.files.now a.lengths.now c.loop-k.k c.loop-k.at _ c.loop-k.invariant.1 c.length_at.ensures.0) c.loop-k.invariant.2
+
 pub overflow_add-k : goal.overflow_add-k
 overflow_add-k c = omega arith
 
 pub loop-k-smaller : goal.loop-k-smaller
 loop-k-smaller c = omega arith
 
+pub loop-k-preserved : goal.loop-k-preserved
+loop-k-preserved c =
+    let a = c.args in
+    let room = room-keeps c.loop-k.invariant.3 c.requires.room in
+    let member = member-slice a.files.now a.lengths.now c.loop-k.k c.loop-k.at _ c.loop-k.invariant.1 c.length_at.ensures.0 in (
+      omega arith,
+      omega (arith, c.loop-k.invariant.1, c.length_at.ensures.0, sum-next c.loop-k.k (length_of a.lengths.now)),
+      next-spot a.day a.files.now a.lengths.now a.sh a.scratch.now c.requires c.loop-k.k (omega arith) _ room _ c.loop-k.spot
+          member c.loop-k.invariant.2 _ _ c.write_member-spot.ensures,
+      c.write_member-spot.ensures.long ∙ c.loop-k.invariant.3,
+      λ oven begun.
+          filled_next a.day a.files.now a.lengths.now a.sh a.scratch.now c.requires c.loop-k.k (omega arith) _ room _
+          c.loop-k.spot member c.loop-k.invariant.2 _ _ c.write_member-spot.ensures oven (c.loop-k.invariant.4 oven begun),
+    )
+
 pub returns : goal.returns
 returns c =
-    let here = c.loop-k in
-    let all : here.k ≡ length c.args.lengths.now = omega arith in
-    record { long = here.invariant.3; filled = rw all at here.invariant.4 }
+    let all : c.loop-k.k ≡ length c.args.lengths.now = omega arith in
+    record { long = c.loop-k.invariant.3; filled = rw all at c.loop-k.invariant.4 }

@@ -27,9 +27,8 @@ chain_of-groups-requires c = (c.requires.ready.sound, c.requires.row_lt_rows, (z
 
 pub loop-k-init : goal.loop-k-init
 loop-k-init c =
-    let sides = c.sides in
     let a = c.args in
-    (zero-le, groups-start a.file.now a.selection.now a.layout a.row sides.side sides.spare _)
+    (zero-le, groups-start a.file.now a.selection.now a.layout a.row c.sides.side c.sides.spare _)
 
 pub offset_bounds-list-k : goal.offset_bounds-list-k
 offset_bounds-list-k c = omega (arith, c.chain_of-groups.ensures.most)
@@ -42,10 +41,9 @@ inside :
     (c : After-wide-g) →
     c.wide-g.result < count_of c.args.layout c.sides.side
 inside c =
-    let rose = c.rise_on-found in
     let a = c.args in
     chain-inside a.file.now a.selection.now a.layout a.row c.sides.side _ c.chain_of-groups.result
-    c.chain_of-groups.ensures _ rose.result rose.ensures (not-false _ c.if-not-found.false) _ (omega arith) c.wide-g.result
+    c.chain_of-groups.ensures _ c.rise_on-found.result c.rise_on-found.ensures (not-false _ c.if-not-found.false) _ (omega arith) c.wide-g.result
     c.wide-g.ensures.0
 
 pub group_of-group-requires : goal.group_of-group-requires
@@ -62,19 +60,15 @@ bounds-counts-g c =
 -- the groups up to that one are done
 next :
     (c : After-fewer-spare) →
-    let sides = c.sides in
     let a = c.args in
-    Groups a.file.now a.selection.now a.layout a.row sides.side sides.spare c.chain_of-groups.new.list
+    Groups a.file.now a.selection.now a.layout a.row c.sides.side c.sides.spare c.chain_of-groups.new.list
     (c.loop-k.k + 1) c.fewer-spare.result
 next c =
-    let loop = c.loop-k in
-    let rose = c.rise_on-found in
-    let sides = c.sides in
     let a = c.args in
     rw c.fewer-spare.ensures
-    (chain-step a.file.now a.selection.now a.layout a.row sides.side _ c.chain_of-groups.result c.chain_of-groups.ensures _
-    rose.result rose.ensures (not-false _ c.if-not-found.false) _ (omega arith) c.wide-g.result c.wide-g.ensures.0
-    c.group_of-group.result c.group_of-group.ensures.0 sides.spare loop.spare loop.invariant.1)
+    (chain-step a.file.now a.selection.now a.layout a.row c.sides.side _ c.chain_of-groups.result c.chain_of-groups.ensures _
+    c.rise_on-found.result c.rise_on-found.ensures (not-false _ c.if-not-found.false) _ (omega arith) c.wide-g.result c.wide-g.ensures.0
+    c.group_of-group.result c.group_of-group.ensures.0 c.sides.spare c.loop-k.spare c.loop-k.invariant.1)
 
 pub loop-k-smaller : goal.loop-k-smaller
 loop-k-smaller c = omega arith
@@ -88,12 +82,11 @@ sides-smaller c = omega arith
 -- a number is told: with both sides done, of a side that does not fit, of a group without a place
 pub returns-after-sides : goal.returns-after-sides
 returns-after-sides c =
-    let sides = c.sides in
     let a = c.args in
     spares-on a.file.now a.selection.now a.layout c.requires.ready a.row c.requires.row_lt_rows
-    (λ i. omega (arith, c.shared_slice_known-1.given i)) sides.spare
-    (sides-end a.file.now a.selection.now a.layout c.requires.ready a.row c.requires.row_lt_rows sides.side sides.spare
-    (omega arith) sides.invariant)
+    (λ i. omega (arith, c.shared_slice_known-1.given i)) c.sides.spare
+    (sides-end a.file.now a.selection.now a.layout c.requires.ready a.row c.requires.row_lt_rows c.sides.side c.sides.spare
+    (omega arith) c.sides.invariant)
 
 pub returns-then-spare-eq0 : goal.returns-then-spare-eq0
 returns-then-spare-eq0 c =
@@ -103,3 +96,25 @@ returns-then-spare-eq0 c =
     (full-group a.file.now a.selection.now a.layout c.requires.ready a.row c.requires.row_lt_rows c.sides.side
     c.sides.spare _ c.chain_of-groups.result (c.loop-k.k + 1) c.fewer-spare.result c.sides.invariant
     c.chain_of-groups.ensures (omega (arith, c.loop-k-test.true)) (next (goal.at.returns-then-spare-eq0 c).After-fewer-spare) c.if-spare-eq0.true)
+
+pub fewer-spare-requires : goal.fewer-spare-requires
+fewer-spare-requires c =
+    let a = c.args in
+    chain_fits a.file.now a.selection.now a.layout a.row c.sides.side _ c.chain_of-groups.result
+    c.chain_of-groups.ensures _ c.rise_on-found.result c.rise_on-found.ensures (not-false _ c.if-not-found.false) _ (omega arith) c.wide-g.result
+    c.wide-g.ensures.0 c.group_of-group.result c.group_of-group.ensures.0
+
+pub sides-preserved : goal.sides-preserved
+sides-preserved c =
+    let a = c.args in
+    chain-end a.file.now a.selection.now a.layout a.row c.sides.side _ c.chain_of-groups.result c.chain_of-groups.ensures _
+    c.rise_on-found.result c.rise_on-found.ensures (not-false _ c.if-not-found.false) c.sides.spare c.loop-k.spare c.loop-k.k (omega arith) c.sides.invariant
+    c.loop-k.invariant.1
+
+pub returns-then-not-found : goal.returns-then-not-found
+returns-then-not-found c =
+    let a = c.args in
+    spares-on a.file.now a.selection.now a.layout c.requires.ready a.row c.requires.row_lt_rows
+    (λ i. omega (arith, c.shared_slice_known-1.given i)) 0
+    (unfit-side a.file.now a.selection.now a.layout c.requires.ready a.row c.requires.row_lt_rows c.sides.side
+    (c.rise_on-found.ensures.lifted.unfit (not-true _ c.if-not-found.true)))

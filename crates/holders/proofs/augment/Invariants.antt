@@ -1,0 +1,16 @@
+-- While `more` holds the next round may begin, and once it does not there is no path (`Going`). Each round but the last keeps more rows.
+use borrow.Author.Rules.{rules}
+use mathlib.Core.Path.{◌≡◌, ◌∙◌, refl}
+use lib.ListN.{length}
+use Rattle.scratch.specs.Memory.{memory}
+use Rattle.walks.proofs.RoundLaws.{to_go}
+use Rattle.solver.proofs.TollLaws.{running-begun}
+use Rattle.holders.proofs.FindLaws.{Going, going_start, going_next, going_less}
+use Rattle.holders.proofs.augment.Given as goal
+
+abbrev pub invariant-loop-more : goal.invariant-loop-more
+invariant-loop-more l = Going l.sh l.initial.choice (memory l.wide l.sheet l.sheet64) (memory l.wide l.initial.scratch l.initial.scratch64) l.choice (memory l.wide l.scratch l.scratch64) l.more
+    × ((length l.scratch ≡ length l.initial.scratch) × (length l.scratch64 ≡ length l.initial.scratch64))
+
+abbrev pub decreases-loop-more : goal.decreases-loop-more
+decreases-loop-more l = to_go l.sh l.choice l.more
