@@ -1,6 +1,7 @@
 use mathlib.Core.Path.{◌≡◌}
 use Prim.Native.Nat.{◌+◌, ◌-◌, ◌≤◌}
 use native.Mathlib.Omega.{arith}
+use borrow.Author.Rules.{rules}
 use lib.ListN.{length}
 use Rattle.theory.specs.Sum.{sum}
 use Rattle.theory.proofs.SumLaws.{sum-next}
@@ -33,6 +34,11 @@ overflow_add-end c = omega (arith, within (goal.at.overflow_add-end c).After-len
 
 pub slice_bounds-count_member-count : goal.slice_bounds-count_member-count
 slice_bounds-count_member-count c = omega arith
+
+pub slice_bounds-count_member-end : goal.slice_bounds-count_member-end
+slice_bounds-count_member-end c =
+    let inside = within (goal.at.slice_bounds-count_member-end c).After-length_at in
+    search rules
 
 pub count_member-tally-requires : goal.count_member-tally-requires
 count_member-tally-requires c =

@@ -1,0 +1,17 @@
+-- The loop keeps that the rows before c are covered. A row that is not ends it, and at its end all are.
+use mathlib.Core.Path.{◌≡◌, sym, ◌∙◌}
+use mathlib.Core.Bool.{true}
+use Prim.Native.Nat.{ℕ, ◌-◌, ◌≤◌, ◌<◌}
+use native.Mathlib.Omega.{arith}
+use borrow.Author.Count.{below_more}
+use borrow.Author.Tests.{not-true, not-false}
+use Rattle.claimfile.specs.Day.{instance_of}
+use Rattle.sheets.specs.Sheet.{covers}
+use Rattle.sheets.proofs.CoverLaws.{covered-not, covered-all}
+use Rattle.sheets.proofs.cover.covers_all.Given as goal
+
+abbrev pub invariant-loop-c : goal.invariant-loop-c
+invariant-loop-c l = (l.c ≤ l.rows) × ((i : ℕ) → i < l.c → covers (instance_of l.file l.layout) l.sheet i ≡ true)
+
+abbrev pub decreases-loop-c : goal.decreases-loop-c
+decreases-loop-c l = l.rows - l.c
