@@ -122,12 +122,13 @@ module _ {s : List ℕ} {l new : Layout} {side g : ℕ} {out : List ℕ} (ready 
       -- a smaller parent was put before, with its limit
       above-put : above < g → (group_of out (on_day new i) side (number d above)).limit ≡ d.limit i above
       above-put lower =
+          let made = canonical_contents s l in
           let j = number d above in
           let back = group-number sound above (used-above lower) in
           let small = number_small sound above (used-above lower) in
           let put = ready.put.begun.groups side j (omega (arith, records-on s l side, small)) (inr (refl, omega (arith, back))) in
           ap (λ (k : Layout). (group_of out (on_day k i) side j).limit) ready.given.layout
-          ∙ ap (λ (x : Group). x.limit) (held-group _ _ _ out _ i day side j put)
+          ∙ ap (λ (x : Group). x.limit) (held-group made.cards made.shops made.rows out _ i day side j put)
           ∙ ap (d.limit i) back
 
       limit-new : limit_for out new i side (parent_for t g above) (group_of s (on_day l i) side g).limit ≡ d.limit i g

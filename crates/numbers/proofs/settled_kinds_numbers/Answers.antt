@@ -1,0 +1,14 @@
+-- Each case of the answer is given by its numbers (`settled_kinds_numbers`).
+use mathlib.Core.Path.{sym, ap, ◌∙◌}
+use Prim.Native.Nat.{ℕ}
+use borrow.Author.Rules.{rules}
+use Rattle.kinds.specs.Settle.{settled_kinds_numbers}
+use Rattle.numbers.proofs.settled_kinds_numbers.Goals as goal
+
+pub returns-in-Closed : goal.returns-in-Closed
+returns-in-Closed c = ap settled_kinds_numbers (sym c.in-Closed.is)
+
+pub returns-in-Refused : goal.returns-in-Refused
+returns-in-Refused c =
+    ap (λ (n : ℕ). record { refusal = n; kind0 = 0; kind1 = 0; kind2 = 0; kind3 = 0; kept = 0; total = 0 }) c.number.ensures
+    ∙ ap settled_kinds_numbers (sym c.in-Refused.is)
