@@ -6,19 +6,8 @@ use borrow.Author.Rules.{rules}
 use Rattle.joined.specs.Call.{joined_numbers}
 use Rattle.numbers.proofs.joined_numbers.Goals as goal
 
-pub overflow_cast-result : goal.overflow_cast-result
-overflow_cast-result c =
-    let given = c.answer-in-Member-1.given in
-    omega (arith, c.requires, ap (λ x. (joined_numbers x).file) given.1)
-
 pub returns-in-Closed : goal.returns-in-Closed
 returns-in-Closed c = ap joined_numbers (sym c.in-Closed.is)
-
-pub returns-in-Member : goal.returns-in-Member
-returns-in-Member c =
-    let given = c.answer-in-Member-1.given in
-    ap (λ (n : ℕ). record { refusal = n; file = given.0.0; earned = 0; kept = 0; total = 0 }) c.number.ensures
-    ∙ ap joined_numbers (sym given.1)
 
 pub returns-in-Refused : goal.returns-in-Refused
 returns-in-Refused c =

@@ -10,12 +10,6 @@ use Rattle.numbers.proofs.ranked_numbers.Goals as goal
 pub overflow_cast-result-in-Told : goal.overflow_cast-result-in-Told
 overflow_cast-result-in-Told c = omega (arith, c.requires, ap (λ x. (ranked_numbers x).rank) c.in-Told.is)
 
-pub returns-in-Told : goal.returns-in-Told
-returns-in-Told c =
-    let given = c.answer-1.given in
-    ap (λ (n : ℕ). record { refusal = 0; fits = n; rank = given.0.1.0 }) (byte-bit given.0.0)
-    ∙ ap ranked_numbers (sym given.1)
-
 pub returns-in-Refused : goal.returns-in-Refused
 returns-in-Refused c =
     ap (λ (n : ℕ). record { refusal = n; fits = 0; rank = 0 }) c.number.ensures
