@@ -240,7 +240,7 @@ fn look_items(
     scratch: &mut [u32],
     scratch64: &mut [u64],
 ) -> Seen
-    requires fact { Open sh choice.now (memory wide sheet.now sheet64.now) (memory wide scratch.old scratch64.old) back u n m }
+    requires opened { Open sh choice.now (memory wide sheet.now sheet64.now) (memory wide scratch.old scratch64.old) back u n m }
     requires side_of { SideOf (net_of sh (memory wide scratch.old scratch64.old)) u shops }
     ensures { let sheet₀ = memory wide sheet.now sheet64.now in
         let scratch₀ = memory wide scratch.old scratch64.old in

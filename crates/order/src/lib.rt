@@ -82,7 +82,7 @@ fn name_ends(
     scratch: &mut [u32],
     scratch64: &mut [u64],
 )
-    requires fact { let scratch₀ = memory wide scratch.old scratch64.old in
+    requires queues { let scratch₀ = memory wide scratch.old scratch64.old in
         Queued sh scratch₀ n × QueuedIn sh scratch₀ (from_last sh scratch₀) m }
     requires x_lt_cell_bound { x < cell_bound }
     ensures { let scratch₀ = memory wide scratch.old scratch64.old in

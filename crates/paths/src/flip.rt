@@ -11,7 +11,7 @@ use scratch::Shape;
 fn shift(sh: Shape, v: usize, takes: bool, wide: bool, scratch: &mut [u32], scratch64: &mut [u64])
     requires room { Room sh (memory wide scratch.old scratch64.old) }
     requires v_lt_groups { v < sh.groups }
-    requires fact { let scratch₀ = memory wide scratch.old scratch64.old in
+    requires places { let scratch₀ = memory wide scratch.old scratch64.old in
         (takes ≡ true → 0 < spare_of sh scratch₀ v) × (spare_of sh scratch₀ v ≤ max_spare + 1) }
     ensures { let scratch₀ = memory wide scratch.old scratch64.old in
         let scratch' = memory wide scratch.new scratch64.new in

@@ -105,7 +105,7 @@ pub fn relabel_last(
     scratch: &mut [u32],
     scratch64: &mut [u64],
 )
-    requires fact { let scratch₀ = memory wide scratch.old scratch64.old in
+    requires queued { let scratch₀ = memory wide scratch.old scratch64.old in
         QueuedIn sh scratch₀ (from_last sh scratch₀) n }
     requires x_lt_cell_bound { x < cell_bound }
     ensures { let scratch₀ = memory wide scratch.old scratch64.old in

@@ -58,7 +58,7 @@ fn look_above(
     scratch: &mut [u32],
     scratch64: &mut [u64],
 ) -> usize
-    requires fact { Open sh back choice.now (memory wide sheet.now sheet64.now) (memory wide scratch.old scratch64.old) u h n }
+    requires opened { Open sh back choice.now (memory wide sheet.now sheet64.now) (memory wide scratch.old scratch64.old) u h n }
     requires u_lt_groups { rises ≡ true → u < sh.groups }
     ensures { let sheet₀ = memory wide sheet.now sheet64.now in
         let scratch₀ = memory wide scratch.old scratch64.old in

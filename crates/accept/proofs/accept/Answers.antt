@@ -1,6 +1,5 @@
 -- The file's first fault is told, and what was sent with an accepted file is judged by `accept_on`.
 use mathlib.Core.Path.{refl, sym, ◌∙◌}
-use borrow.Author.Rules.{rules}
 use Rattle.reader.proofs.AcceptedLaws.{accepted-sound, accepted-kinds}
 use Rattle.accept.proofs.VerdictLaws.{judges}
 use Rattle.accept.proofs.accept.Goals as goal

@@ -1,5 +1,4 @@
 -- What is found on each side is the test of that side, and both are asked.
-use borrow.Author.Rules.{rules}
 use Rattle.claimfile.specs.Day.{instance_of}
 use Rattle.accept.proofs.VerdictLaws.{both_found}
 use Rattle.accept.proofs.fits_both.Goals as goal

@@ -1,6 +1,5 @@
 -- Whether the choice fits is judged first, and the sheet where it does.
 use mathlib.Core.Path.{sym, ◌∙◌}
-use borrow.Author.Rules.{rules}
 use Rattle.claimfile.specs.Day.{instance_of}
 use Rattle.accept.proofs.VerdictLaws.{judged-unfit}
 use Rattle.accept.proofs.judge.Goals as goal

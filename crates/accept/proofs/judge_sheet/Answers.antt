@@ -2,8 +2,6 @@
 use mathlib.Core.Path.{◌≡◌, sym, ◌∙◌}
 use mathlib.Core.Bool.{true}
 use native.Mathlib.Omega.{arith}
-use borrow.Author.Rules.{rules}
-use borrow.Author.Tests.{not-true, not-false}
 use Rattle.claimfile.specs.Day.{instance_of}
 use Rattle.sheets.specs.Sheet.{covered}
 use Rattle.instance.specs.Meaning.{nodes}

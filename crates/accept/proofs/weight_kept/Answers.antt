@@ -1,6 +1,5 @@
 -- The total of what the choice comes to is the weight of the kept rows.
 use native.Mathlib.Omega.{arith}
-use borrow.Author.Rules.{rules}
 use Rattle.accept.proofs.weight_kept.Goals as goal
 
 pub returns : goal.returns

@@ -1,7 +1,6 @@
 -- `canonical_on` meets its contract: the layout has the counts of the two tables, so it is that of the canonical file, and the
 -- buffer has room; once all parts are put the buffer starts with the file.
 use native.Mathlib.Omega.{arith}
-use borrow.Author.Rules.{rules}
 use Rattle.canonical.proofs.WriteLaws.{count_most, tables-for, given-for, on-written}
 use Rattle.canonical.proofs.canonical_on.Goals as goal
 

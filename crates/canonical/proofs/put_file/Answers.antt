@@ -1,5 +1,4 @@
 -- `put_file` meets its contract: each part is put where the ones before it are.
-use borrow.Author.Rules.{rules}
 use Rattle.canonical.proofs.PartLaws.{ready-then, put_then, put-none}
 use Rattle.canonical.proofs.put_file.Goals as goal
 

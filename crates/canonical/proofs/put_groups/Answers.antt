@@ -1,9 +1,7 @@
 use mathlib.Core.Path.{◌≡◌}
-use Prim.Native.Nat.{◌-◌, ◌≤◌}
+use Prim.Native.Nat.{◌-◌}
 use native.Mathlib.Omega.{arith}
-use borrow.Author.Rules.{rules}
 use Rattle.claimfile.specs.Day.{count_of}
-use Rattle.records.specs.Records.{PutTo}
 use Rattle.canonical.proofs.PartLaws.{ready-then, put_then, put-side}
 use Rattle.canonical.proofs.put_groups.Goals as goal
 

@@ -1,11 +1,6 @@
 -- `put_groups` meets its contract. The loop's invariant: the groups of the side that are numbered below `g` in the file are put.
-use mathlib.Core.Path.{◌≡◌}
 use Prim.Native.Nat.{◌-◌, ◌≤◌}
-use native.Mathlib.Omega.{arith}
-use borrow.Author.Rules.{rules}
-use Rattle.claimfile.specs.Day.{count_of}
 use Rattle.records.specs.Records.{PutTo}
-use Rattle.canonical.proofs.PartLaws.{ready-then, put_then, put-side}
 use Rattle.canonical.proofs.put_groups.Given as goal
 
 abbrev pub invariant-loop-g : goal.invariant-loop-g

@@ -1,7 +1,6 @@
 -- `put_row` meets its contract: the groups that the row names are used, so the tables have their new numbers.
 use mathlib.Core.Path.{refl, ap}
 use native.Mathlib.Omega.{arith}
-use borrow.Author.Rules.{rules}
 use Rattle.claimfile.specs.declared.Layout.{Layout}
 use Rattle.canonical.proofs.PartLaws.{put-row}
 use Rattle.canonical.proofs.put_row.Goals as goal

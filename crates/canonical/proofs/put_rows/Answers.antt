@@ -1,7 +1,6 @@
 use mathlib.Core.Path.{◌≡◌}
-use Prim.Native.Nat.{◌-◌, ◌≤◌}
+use Prim.Native.Nat.{◌-◌}
 use native.Mathlib.Omega.{arith}
-use Rattle.records.specs.Records.{PutTo}
 use Rattle.canonical.proofs.PartLaws.{ready-then, put_then}
 use Rattle.canonical.proofs.put_rows.Goals as goal
 

@@ -1,9 +1,6 @@
 -- `put_rows` meets its contract. The loop's invariant: the claims before `c` are put.
-use mathlib.Core.Path.{◌≡◌}
 use Prim.Native.Nat.{◌-◌, ◌≤◌}
-use native.Mathlib.Omega.{arith}
 use Rattle.records.specs.Records.{PutTo}
-use Rattle.canonical.proofs.PartLaws.{ready-then, put_then}
 use Rattle.canonical.proofs.put_rows.Given as goal
 
 abbrev pub invariant-loop-c : goal.invariant-loop-c

@@ -2,7 +2,6 @@
 -- the week layout, each with nothing changed; else `canonical_on` writes.
 use mathlib.Core.Path.{sym, ◌∙◌}
 use native.Mathlib.Omega.{arith}
-use borrow.Author.Rules.{rules}
 use Rattle.reader.proofs.AcceptedLaws.{accepted-sound}
 use Rattle.canonical.proofs.WriteLaws.{writes-refused, writes_short, writes-written}
 use Rattle.canonical.proofs.write_canonical.Goals as goal

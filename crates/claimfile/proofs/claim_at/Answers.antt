@@ -1,5 +1,4 @@
 -- `claim_at` meets its contract: its three fields are read at the places that the definition names.
-use borrow.Author.Rules.{rules}
 use Rattle.claimfile.proofs.claim_at.Goals as goal
 
 pub returns : goal.returns

@@ -3,7 +3,6 @@ use mathlib.Core.Path.{◌∙◌, ap}
 use mathlib.Core.List.{List}
 use Prim.Native.Nat.{ℕ}
 use native.Mathlib.Omega.{arith}
-use borrow.Author.Rules.{rules}
 use Rattle.claimfile.specs.File.{claim_at}
 use Rattle.claimfile.specs.declared.Claim.{Claim}
 use Rattle.claimfile.proofs.WidthLaws.{tail-is}

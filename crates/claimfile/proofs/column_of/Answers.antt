@@ -1,7 +1,6 @@
 -- `column_of` meets its contract: in the week layout a day has its own limit, or the last; the old layout has one.
 use mathlib.Core.Path.{sym}
 use native.Mathlib.Omega.{arith}
-use borrow.Author.Rules.{rules}
 use Rattle.claimfile.proofs.WidthLaws.{column-small, column-old, column-in, column-past}
 use Rattle.claimfile.proofs.column_of.Goals as goal
 

@@ -1,6 +1,5 @@
 -- `groups_on` meets its contract: a side that is not the card side is the shop side.
 use native.Mathlib.Omega.{arith}
-use borrow.Author.Rules.{rules}
 use Rattle.claimfile.proofs.DayLaws.{count-shop}
 use Rattle.claimfile.proofs.groups_on.Goals as goal
 

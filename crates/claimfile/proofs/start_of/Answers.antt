@@ -1,6 +1,5 @@
 -- `start_of` meets its contract: a side that is not the card side is the shop side.
 use native.Mathlib.Omega.{arith}
-use borrow.Author.Rules.{rules}
 use Rattle.claimfile.proofs.DayLaws.{start-shop}
 use Rattle.claimfile.proofs.start_of.Goals as goal
 

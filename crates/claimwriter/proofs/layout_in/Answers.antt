@@ -6,7 +6,6 @@ use Rattle.claimfile.specs.Day.{on_day}
 use Rattle.claimfile.specs.declared.Layout.{Layout}
 use Rattle.reader.proofs.AcceptedLaws.{accepted-sound}
 use Rattle.claimwriter.proofs.CountsLaws.{counts-within, cards-read, shops-read, rows-read, layout-read}
-use borrow.Author.Rules.{rules}
 use Rattle.claimwriter.proofs.layout_in.Goals as goal
 
 pub u16_at-cards-requires : goal.u16_at-cards-requires

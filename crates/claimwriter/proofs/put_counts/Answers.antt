@@ -1,5 +1,4 @@
 -- `put_counts` meets its contract: its three calls are the three steps that the contract names.
-use borrow.Author.Rules.{rules}
 use Rattle.claimwriter.proofs.put_counts.Goals as goal
 
 pub returns : goal.returns

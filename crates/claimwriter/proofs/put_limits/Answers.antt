@@ -1,12 +1,7 @@
 use mathlib.Core.Path.{◌≡◌, refl}
-use mathlib.Core.List.{List}
-use Prim.Native.Nat.{ℕ, ◌-◌, ◌≤◌}
+use Prim.Native.Nat.{◌-◌}
 use native.Mathlib.Omega.{arith}
-use borrow.Author.Rules.{rules}
-use Rattle.theory.specs.Matroid.{row}
 use Rattle.claimfile.specs.File.{days}
-use Rattle.claimwriter.specs.Written.{bytes_of, records}
-use Rattle.claimwriter.specs.Put.{Put}
 use Rattle.claimwriter.proofs.PutLaws.{put-none, put-more}
 use Rattle.claimwriter.proofs.put_limits.Invariants.{limits_of}
 use Rattle.claimwriter.proofs.put_limits.Goals as goal

@@ -1,14 +1,10 @@
 -- `put_limits` meets its contract. The loop keeps that the limits of the days before k are put, one behind the other.
-use mathlib.Core.Path.{◌≡◌, refl}
 use mathlib.Core.List.{List}
 use Prim.Native.Nat.{ℕ, ◌-◌, ◌≤◌}
-use native.Mathlib.Omega.{arith}
-use borrow.Author.Rules.{rules}
 use Rattle.theory.specs.Matroid.{row}
 use Rattle.claimfile.specs.File.{days}
 use Rattle.claimwriter.specs.Written.{bytes_of, records}
 use Rattle.claimwriter.specs.Put.{Put}
-use Rattle.claimwriter.proofs.PutLaws.{put-none, put-more}
 use Rattle.claimwriter.proofs.put_limits.Given as goal
 
 abbrev pub limits_of : List ℕ → ℕ → List ℕ

@@ -1,7 +1,6 @@
 -- `put_pair` meets its contract: the second number is put right behind the first (`put_then`).
 use mathlib.Core.Path.{refl}
 use Prim.Native.Nat.{◌+◌}
-use borrow.Author.Rules.{rules}
 use Rattle.claimwriter.specs.Written.{bytes_of}
 use Rattle.claimwriter.proofs.PutLaws.{put_then}
 use Rattle.claimwriter.proofs.put_pair.Goals as goal

@@ -1,7 +1,6 @@
 -- `put_u16` meets its contract: two stores, one behind the other (`put_word`).
 use native.Mathlib.Omega.{arith}
 use lib.ListN.{length-set}
-use borrow.Author.Rules.{rules}
 use Rattle.claimwriter.proofs.PutLaws.{put_word}
 use Rattle.claimwriter.proofs.put_u16.Goals as goal
 

@@ -1,6 +1,5 @@
 -- `week_length` meets its contract: the length is that of the layout for the same counts.
 use mathlib.Core.Path.{◌∙◌, ap}
-use borrow.Author.Rules.{rules}
 use Rattle.claimwriter.specs.Written.{length_for}
 use Rattle.claimfile.specs.declared.Layout.{Layout}
 use Rattle.claimwriter.proofs.week_length.Goals as goal

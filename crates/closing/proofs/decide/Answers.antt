@@ -2,7 +2,6 @@
 -- 32-bit cells is the slices themselves, so the contract of the tables speaks of them.
 use mathlib.Core.Path.{sym}
 use native.Mathlib.Omega.{arith}
-use borrow.Author.Rules.{rules}
 use Rattle.claimfile.specs.File.{first_terms}
 use Rattle.closing.proofs.SettleLaws.{in-first, tables-given, tables-solves, solved-by, solved-settlement, empty-settlement}
 use Rattle.closing.proofs.decide.Goals as goal

@@ -1,6 +1,5 @@
 -- The file's first fault is told with nothing changed, and an accepted file is settled by `settle_on`.
 use mathlib.Core.Path.{refl, sym, ◌∙◌}
-use borrow.Author.Rules.{rules}
 use Rattle.reader.proofs.AcceptedLaws.{accepted-sound, accepted-kinds}
 use Rattle.closing.proofs.AnswerLaws.{settles-refused, settles-accepted}
 use Rattle.closing.proofs.settle.Goals as goal

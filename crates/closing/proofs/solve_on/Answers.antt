@@ -1,5 +1,4 @@
 -- The shape is that of the layout, and the memory of 32-bit cells is the slices themselves, so the solver's contract speaks of them.
-use borrow.Author.Rules.{rules}
 use Rattle.closing.proofs.SettleLaws.{solvable-by, solved-by}
 use Rattle.closing.proofs.solve_on.Goals as goal
 

@@ -1,7 +1,6 @@
 -- The kept rows that are not ordinary are earned, and the two counts come to the weight of the kept rows. They are small enough for the
 -- product.
 use native.Mathlib.Omega.{arith}
-use borrow.Author.Rules.{rules}
 use Rattle.closing.proofs.CountLaws.{totals-small, totals-counted}
 use Rattle.closing.proofs.totals_of.Goals as goal
 

@@ -1,7 +1,6 @@
 -- With no row there is nothing to tell; else the tables hold the day, and what is read off them are its codes. The memory of 32-bit cells is
 -- the slices themselves.
 use native.Mathlib.Omega.{arith}
-use borrow.Author.Rules.{rules}
 use Rattle.claimfile.specs.File.{first_terms}
 use Rattle.closing.proofs.SettleLaws.{in-first, tables-given, tables-ready}
 use Rattle.codes.proofs.WriteLaws.{found-day, empty-known}

@@ -1,6 +1,5 @@
 -- The file's first fault is told with nothing changed, and the codes of an accepted file are written by `write_codes_on`.
 use mathlib.Core.Path.{refl, sym, ◌∙◌}
-use borrow.Author.Rules.{rules}
 use Rattle.reader.proofs.AcceptedLaws.{accepted-sound, accepted-kinds}
 use Rattle.codes.proofs.WriteLaws.{writes-refused, writes-accepted}
 use Rattle.codes.proofs.write_codes.Goals as goal

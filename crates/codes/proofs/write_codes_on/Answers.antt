@@ -4,7 +4,6 @@ use mathlib.Core.Path.{refl, sym}
 use mathlib.Core.Logic.{inl, inr}
 use native.Mathlib.Omega.{arith}
 use lib.Seq.{length-take-le}
-use borrow.Author.Rules.{rules}
 use Rattle.claimfile.specs.Day.{network_of, instance_of}
 use Rattle.codes.specs.Write.{Enough}
 use Rattle.codes.proofs.WriteLaws.{lent-parts, writes_short, writes-dayless, writes-known}

@@ -1,7 +1,6 @@
 -- The pred is what the label says in the class of the fresh nodes.
 use mathlib.Core.Path.{ap, ◌∙◌}
 use Rattle.scratch.specs.Map.{arc_in}
-use borrow.Author.Rules.{rules}
 use Rattle.entries.proofs.pred.Goals as goal
 
 pub returns : goal.returns

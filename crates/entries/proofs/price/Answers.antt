@@ -3,7 +3,6 @@ use mathlib.Core.Path.{sym, ◌∙◌}
 use native.Mathlib.Omega.{arith}
 use Rattle.scratch.specs.Memory.{memory}
 use Rattle.scratch.proofs.MapLaws.{price-at, price-out}
-use borrow.Author.Rules.{rules}
 use Rattle.entries.proofs.price.Goals as goal
 
 pub get-requires : goal.get-requires

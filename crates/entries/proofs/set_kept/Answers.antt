@@ -1,6 +1,5 @@
 -- One store into the choice: row c's byte becomes x, and every other stays (`put-kept`).
 use Rattle.scratch.proofs.MapLaws.{put-kept}
-use borrow.Author.Rules.{rules}
 use Rattle.entries.proofs.set_kept.Goals as goal
 
 pub returns : goal.returns

@@ -4,7 +4,6 @@ use mathlib.Core.List.{List}
 use native.Mathlib.Omega.{arith}
 use Rattle.scratch.specs.Memory.{memory}
 use Rattle.scratch.proofs.MapLaws.{put-price}
-use borrow.Author.Rules.{rules}
 use Rattle.entries.proofs.set_price.Goals as goal
 use Rattle.entries.proofs.set_price.Goals.{Start}
 

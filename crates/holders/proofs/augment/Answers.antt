@@ -1,10 +1,7 @@
 use borrow.Author.Rules.{rules}
-use mathlib.Core.Path.{◌≡◌, ◌∙◌, refl}
-use lib.ListN.{length}
-use Rattle.scratch.specs.Memory.{memory}
-use Rattle.walks.proofs.RoundLaws.{to_go}
+use mathlib.Core.Path.{◌∙◌, refl}
 use Rattle.solver.proofs.TollLaws.{running-begun}
-use Rattle.holders.proofs.FindLaws.{Going, going_start, going_next, going_less}
+use Rattle.holders.proofs.FindLaws.{going_start, going_next, going_less}
 use Rattle.holders.proofs.augment.Goals as goal
 
 pub loop-more-init : goal.loop-more-init

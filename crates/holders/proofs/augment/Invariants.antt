@@ -1,11 +1,9 @@
 -- While `more` holds the next round may begin, and once it does not there is no path (`Going`). Each round but the last keeps more rows.
-use borrow.Author.Rules.{rules}
-use mathlib.Core.Path.{◌≡◌, ◌∙◌, refl}
+use mathlib.Core.Path.{◌≡◌}
 use lib.ListN.{length}
 use Rattle.scratch.specs.Memory.{memory}
 use Rattle.walks.proofs.RoundLaws.{to_go}
-use Rattle.solver.proofs.TollLaws.{running-begun}
-use Rattle.holders.proofs.FindLaws.{Going, going_start, going_next, going_less}
+use Rattle.holders.proofs.FindLaws.{Going}
 use Rattle.holders.proofs.augment.Given as goal
 
 abbrev pub invariant-loop-more : goal.invariant-loop-more

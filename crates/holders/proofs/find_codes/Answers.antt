@@ -3,7 +3,6 @@ use mathlib.Core.Path.{◌∙◌}
 use native.Mathlib.Omega.{arith}
 use Rattle.holders.proofs.FindLaws.{source-labelled}
 use Rattle.holders.proofs.FoundLaws.{labels-found}
-use borrow.Author.Rules.{rules}
 use Rattle.holders.proofs.find_codes.Goals as goal
 
 pub label_source-requires : goal.label_source-requires

@@ -1,6 +1,5 @@
 -- Where the node has a pred it gets the label; else nothing changes.
 use Rattle.holders.proofs.FindLaws.{named-yes, named-no}
-use borrow.Author.Rules.{rules}
 use Rattle.holders.proofs.label_reached.Goals as goal
 
 pub returns-then-pred-gt0 : goal.returns-then-pred-gt0

@@ -1,6 +1,5 @@
 -- The search goes back from the sink to its end, since the source has a label of its own; what it reached is what reaches the sink.
 use native.Mathlib.Omega.{arith}
-use borrow.Author.Rules.{rules}
 use Rattle.holders.proofs.FindLaws.{sink-asked, sink-aside, sink-queued, sink-labelled}
 use Rattle.holders.proofs.label_sink.Goals as goal
 

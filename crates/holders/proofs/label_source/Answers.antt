@@ -1,11 +1,8 @@
-use Rattle.scratch.specs.Memory.{memory}
-use mathlib.Core.Path.{◌≡◌, refl, ◌∙◌}
-use lib.ListN.{length}
+use mathlib.Core.Path.{refl, ◌∙◌}
 use native.Mathlib.Omega.{arith}
-use Prim.Native.Nat.{◌+◌, ◌-◌, ◌≤◌}
+use Prim.Native.Nat.{◌-◌}
 use native.Mathlib.Nat.{le_antisymm}
 use Rattle.scratch.proofs.MapLaws.{room-keeps}
-use Rattle.holders.specs.Find.{Named}
 use Rattle.holders.proofs.FindLaws.{named_none, named_more}
 use Rattle.holders.proofs.label_source.Goals as goal
 

@@ -1,13 +1,9 @@
 -- The loop's invariant, `Named`: the nodes below v that have a pred have the label, and no other label changed.
 use Rattle.scratch.specs.Memory.{memory}
-use mathlib.Core.Path.{◌≡◌, refl, ◌∙◌}
+use mathlib.Core.Path.{◌≡◌}
 use lib.ListN.{length}
-use native.Mathlib.Omega.{arith}
 use Prim.Native.Nat.{◌+◌, ◌-◌, ◌≤◌}
-use native.Mathlib.Nat.{le_antisymm}
-use Rattle.scratch.proofs.MapLaws.{room-keeps}
 use Rattle.holders.specs.Find.{Named}
-use Rattle.holders.proofs.FindLaws.{named_none, named_more}
 use Rattle.holders.proofs.label_source.Given as goal
 
 abbrev pub invariant-loop-v : goal.invariant-loop-v

@@ -1,5 +1,4 @@
 -- A parent that is a smaller group is the node above, and any other stands for the root.
-use borrow.Author.Rules.{rules}
 use borrow.Author.Tests.{lt-ltb, le-ltb}
 use native.Mathlib.Omega.{arith}
 use Rattle.instance.proofs.above.Goals as goal

@@ -1,7 +1,6 @@
 -- `card_node` meets its contract: the claim's kind decides between the group that it names and the node above that, which its record gives.
 use mathlib.Core.Path.{◌∙◌}
 use native.Mathlib.Omega.{arith}
-use borrow.Author.Rules.{rules}
 use Rattle.instance.proofs.RowLaws.{hung-ordinary, hung-earned}
 use Rattle.instance.proofs.card_node.Goals as goal
 

@@ -1,7 +1,6 @@
 -- A node is a card group or, behind these, a shop group; on either side its record says what is above it (`node-is`).
 use Prim.Native.Nat.{◌-◌}
 use native.Mathlib.Omega.{arith}
-use borrow.Author.Rules.{rules}
 use Rattle.instance.proofs.NodeLaws.{node-is}
 use Rattle.instance.proofs.node_at.Goals as goal
 

@@ -1,7 +1,6 @@
 -- `power` meets its contract: with at most 512 rows neither product is too large, and each is the power of its kind.
 use Prim.Native.Nat.{◌+◌}
 use native.Mathlib.Omega.{arith}
-use borrow.Author.Rules.{rules}
 use Rattle.instance.proofs.RowLaws.{square-most, cube-most, power-none, power-one, power-two, power-three}
 use Rattle.instance.proofs.power.Goals as goal
 

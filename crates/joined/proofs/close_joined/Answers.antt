@@ -1,7 +1,6 @@
 -- The joined day is decided, the scratch is cleared, and the choice, which is of bits since it is the best one, is counted file by file.
 use mathlib.Core.Path.{refl}
 use native.Mathlib.Omega.{arith}
-use borrow.Author.Rules.{rules}
 use Rattle.closing.proofs.SettleLaws.{settlement-bits}
 use Rattle.joined.proofs.CountLaws.{join-counts, tally-small, tally-counted}
 use Rattle.joined.proofs.close_joined.Goals as goal

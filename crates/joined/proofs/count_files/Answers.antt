@@ -3,12 +3,11 @@ use Prim.Native.Nat.{◌+◌, ◌-◌, ◌≤◌}
 use native.Mathlib.Omega.{arith}
 use borrow.Author.Rules.{rules}
 use lib.ListN.{length}
-use Rattle.theory.specs.Sum.{sum}
 use Rattle.theory.proofs.SumLaws.{sum-next}
 use Rattle.counters.proofs.PartLaws.{sum-none}
 use Rattle.members.specs.Members.{length_of}
 use Rattle.members.proofs.GatherLaws.{fit-lengths, member-within, member-slice}
-use Rattle.joined.proofs.CountLaws.{Reached, tally-none, tally-ready, tally-next, tally-all}
+use Rattle.joined.proofs.CountLaws.{tally-none, tally-ready, tally-next, tally-all}
 use Rattle.joined.proofs.count_files.Goals as goal
 use Rattle.joined.proofs.count_files.Goals.{After-length_at}
 

@@ -5,7 +5,6 @@ use native.Mathlib.Omega.{arith}
 use Rattle.theory.specs.Bounds.{max_rows}
 use Rattle.claimfile.proofs.WidthLaws.{tail-is}
 use Rattle.joined.proofs.CountLaws.{member-few, member-ready, member-counted}
-use borrow.Author.Rules.{rules}
 use Rattle.joined.proofs.count_member.Goals as goal
 use Rattle.joined.proofs.count_member.Goals.{After-count_rows-counts}
 

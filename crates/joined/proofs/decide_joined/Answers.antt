@@ -1,7 +1,6 @@
 -- With no row there is nothing to decide; else the tables hold the joined file's day, and what the solver leaves of them is its settlement.
 use mathlib.Core.Path.{sym}
 use native.Mathlib.Omega.{arith}
-use borrow.Author.Rules.{rules}
 use Rattle.claimfile.specs.File.{first_terms}
 use Rattle.closing.proofs.SettleLaws.{in-first, tables-solves, solved-by, solved-settlement, empty-settlement}
 use Rattle.joined.specs.Call.{together}

@@ -1,6 +1,5 @@
 -- Each case of settle's answer is one of this call's.
 use mathlib.Core.Path.{sym, ap}
-use borrow.Author.Rules.{rules}
 use Rattle.joined.specs.Call.{joint_of}
 use Rattle.joined.proofs.joint_of.Goals as goal
 

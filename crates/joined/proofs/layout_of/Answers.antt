@@ -2,7 +2,6 @@
 use mathlib.Core.Path.{ap, ◌∙◌}
 use Rattle.claimfile.specs.declared.Layout.{Layout}
 use Rattle.claimfile.specs.Day.{on_day}
-use borrow.Author.Rules.{rules}
 use Rattle.joined.proofs.layout_of.Goals as goal
 
 pub returns : goal.returns

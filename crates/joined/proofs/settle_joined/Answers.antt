@@ -4,7 +4,6 @@ use Prim.Native.Nat.{ℕ, ◌<◌}
 use native.Mathlib.Omega.{arith}
 use lib.ListN.{get_or}
 use Rattle.joined.proofs.AnswerLaws.{sizes-few, ready-joins, joins-oven, joins-settled, joins-member, joins-refused}
-use borrow.Author.Rules.{rules}
 use Rattle.joined.proofs.settle_joined.Goals as goal
 use Rattle.joined.proofs.settle_joined.Goals.{After-judge_files-judged}
 

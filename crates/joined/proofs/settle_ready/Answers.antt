@@ -6,7 +6,6 @@ use mathlib.Core.Logic.{inl, inr}
 use Prim.Native.Nat.{ℕ}
 use native.Mathlib.Omega.{arith}
 use lib.Seq.{length-take-le}
-use borrow.Author.Rules.{rules}
 use Rattle.theory.specs.Network.{Instance}
 use Rattle.claimfile.specs.Day.{network_of, instance_of}
 use Rattle.closing.specs.Settle.{Enough}

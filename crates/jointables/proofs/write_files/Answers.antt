@@ -1,15 +1,13 @@
 use mathlib.Core.Path.{◌≡◌, refl, ◌∙◌}
-use Prim.Native.Nat.{ℕ, ◌+◌, ◌-◌, ◌≤◌}
+use Prim.Native.Nat.{◌+◌, ◌-◌, ◌≤◌}
 use native.Mathlib.Omega.{arith}
 use borrow.Author.Rules.{rules}
 use lib.ListN.{length}
-use Rattle.theory.specs.Sum.{sum}
 use Rattle.theory.proofs.SumLaws.{sum-next}
 use Rattle.scratch.proofs.MapLaws.{room-keeps}
 use Rattle.counters.proofs.PartLaws.{sum-none}
 use Rattle.members.specs.Members.{length_of}
 use Rattle.members.proofs.GatherLaws.{fit-lengths, member-within, member-slice}
-use Rattle.jointables.specs.Filled.{spot_of, Filled, days_of}
 use Rattle.jointables.proofs.FilesLaws.{spot-none, next-stands, next-spot, filled_next}
 use Rattle.jointables.proofs.write_files.Goals as goal
 use Rattle.jointables.proofs.write_files.Goals.{After-length_at}

@@ -1,17 +1,11 @@
 -- The loop keeps that the files before file k are written under the oven, whichever limit that has, where file k starts in the buffer and
 -- where it stands in the tables.
-use mathlib.Core.Path.{◌≡◌, refl, ◌∙◌}
-use Prim.Native.Nat.{ℕ, ◌+◌, ◌-◌, ◌≤◌}
-use native.Mathlib.Omega.{arith}
+use mathlib.Core.Path.{◌≡◌}
+use Prim.Native.Nat.{ℕ, ◌-◌, ◌≤◌}
 use lib.ListN.{length}
 use Rattle.theory.specs.Sum.{sum}
-use Rattle.theory.proofs.SumLaws.{sum-next}
-use Rattle.scratch.proofs.MapLaws.{room-keeps}
-use Rattle.counters.proofs.PartLaws.{sum-none}
 use Rattle.members.specs.Members.{length_of}
-use Rattle.members.proofs.GatherLaws.{fit-lengths, member-within, member-slice}
 use Rattle.jointables.specs.Filled.{spot_of, Filled, days_of}
-use Rattle.jointables.proofs.FilesLaws.{spot-none, next-stands, next-spot, filled_next}
 use Rattle.jointables.proofs.write_files.Given as goal
 
 abbrev pub invariant-loop-k : goal.invariant-loop-k

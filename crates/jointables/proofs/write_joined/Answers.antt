@@ -4,7 +4,6 @@ use native.Mathlib.Omega.{arith}
 use Rattle.members.specs.Members.{member_of, layouts_of}
 use Rattle.jointables.proofs.FilledLaws.{filled-tabled}
 use Rattle.jointables.proofs.FilesLaws.{given-keeps, oven-filled}
-use borrow.Author.Rules.{rules}
 use Rattle.jointables.proofs.write_joined.Goals as goal
 
 pub write_oven-requires : goal.write_oven-requires

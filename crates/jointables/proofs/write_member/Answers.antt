@@ -1,6 +1,5 @@
 -- The layout that the counts give is the one that was accepted, so the file is written where it stands. The memory of 32-bit cells is the
 -- slice itself.
-use borrow.Author.Rules.{rules}
 use Rattle.jointables.proofs.FilesLaws.{member-stands, member-small, wrote-member}
 use Rattle.jointables.proofs.write_member.Goals as goal
 

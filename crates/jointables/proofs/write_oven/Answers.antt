@@ -1,6 +1,5 @@
 -- Two stores for the first shop group: its parent, which is the sink, and its limit, cut off.
 use native.Mathlib.Omega.{arith}
-use borrow.Author.Rules.{rules}
 use Rattle.scratch.proofs.MapLaws.{room-keeps}
 use Rattle.jointables.proofs.FilesLaws.{put-oven}
 use Rattle.jointables.proofs.write_oven.Goals as goal

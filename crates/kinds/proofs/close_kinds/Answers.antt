@@ -1,6 +1,5 @@
 -- The day is decided, the scratch is cleared, and the choice is counted.
 use native.Mathlib.Omega.{arith}
-use borrow.Author.Rules.{rules}
 use Rattle.closing.proofs.SettleLaws.{settlement-bits}
 use Rattle.kinds.proofs.close_kinds.Goals as goal
 

@@ -1,7 +1,6 @@
 -- `count_kinds` meets its contract: the four counts are those of the choice, and so are their sum and their weight.
 use mathlib.Core.Path.{refl}
 use native.Mathlib.Omega.{arith}
-use borrow.Author.Rules.{rules}
 use Rattle.selection.proofs.CountLaws.{kept-of-kept}
 use Rattle.kinds.proofs.CountLaws.{counted-kinds}
 use Rattle.kinds.proofs.count_kinds.Goals as goal

@@ -1,7 +1,6 @@
 -- `decide` with four kinds: with no row there is nothing to decide; else the tables hold the day, and what the solver leaves of them is
 -- its settlement. The solver's memory is the low halves of the cells, and in the end they are the whole cells of the sheet.
 use native.Mathlib.Omega.{arith}
-use borrow.Author.Rules.{rules}
 use Rattle.claimfile.specs.File.{second_terms}
 use Rattle.scratch.specs.Memory.{lows}
 use Rattle.closing.specs.Close.{Lent}

@@ -1,7 +1,6 @@
 use Prim.Native.Nat.{◌-◌}
 use native.Mathlib.Omega.{arith}
-use lib.ListN.{length}
-use Rattle.kinds.proofs.LowLaws.{Keeping, keeping_none, keeping-more, keeping_all}
+use Rattle.kinds.proofs.LowLaws.{keeping_none, keeping-more, keeping_all}
 use Rattle.kinds.proofs.keep_low.Goals as goal
 
 pub loop-i-init : goal.loop-i-init

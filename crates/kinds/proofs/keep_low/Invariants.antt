@@ -1,8 +1,7 @@
 -- The invariant: the cells before i hold their low halves, and the others what they held.
 use Prim.Native.Nat.{◌-◌}
-use native.Mathlib.Omega.{arith}
 use lib.ListN.{length}
-use Rattle.kinds.proofs.LowLaws.{Keeping, keeping_none, keeping-more, keeping_all}
+use Rattle.kinds.proofs.LowLaws.{Keeping}
 use Rattle.kinds.proofs.keep_low.Given as goal
 
 abbrev pub invariant-loop-i : goal.invariant-loop-i

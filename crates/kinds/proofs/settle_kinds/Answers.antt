@@ -1,6 +1,5 @@
 -- The file's first fault is told with nothing changed, and an accepted file is settled by `settle_kinds_on`.
 use mathlib.Core.Path.{refl, sym, ◌∙◌}
-use borrow.Author.Rules.{rules}
 use Rattle.reader.proofs.TermsLaws.{second-sound, second-kinds}
 use Rattle.kinds.proofs.AnswerLaws.{kinds-refused, kinds-accepted}
 use Rattle.kinds.proofs.settle_kinds.Goals as goal

@@ -4,7 +4,6 @@ use mathlib.Core.Path.{refl, sym}
 use mathlib.Core.Logic.{inl, inr}
 use native.Mathlib.Omega.{arith}
 use lib.Seq.{length-take-le}
-use borrow.Author.Rules.{rules}
 use Rattle.claimfile.specs.Day.{network_of, instance_of}
 use Rattle.closing.specs.Settle.{Enough}
 use Rattle.closing.proofs.AnswerLaws.{lent-parts}

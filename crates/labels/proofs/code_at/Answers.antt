@@ -1,7 +1,6 @@
 -- A row that does not weigh the toll is ordinary. Else the two labels are read: where they differ the code is 3, and where they are
 -- the same the one label tells it.
 use native.Mathlib.Omega.{arith}
-use borrow.Author.Rules.{rules}
 use Rattle.theory.proofs.ResidualLaws.{card-below, shop-below}
 use Rattle.labels.proofs.ReadLaws.{code-mixed, code-source, code-sink, code-rest}
 use Rattle.labels.proofs.code_at.Goals as goal

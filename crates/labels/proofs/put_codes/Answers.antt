@@ -1,7 +1,5 @@
-use Rattle.scratch.specs.Memory.{memory}
-use Prim.Native.Nat.{◌-◌, ◌≤◌}
+use Prim.Native.Nat.{◌-◌}
 use native.Mathlib.Omega.{arith}
-use Rattle.labels.specs.Label.{Coding}
 use Rattle.labels.proofs.ReadLaws.{coding-none, coding-next, coding-all}
 use Rattle.labels.proofs.put_codes.Goals as goal
 

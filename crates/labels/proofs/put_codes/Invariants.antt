@@ -1,9 +1,7 @@
 -- The bytes before row c hold what the labels of their rows' nodes tell (`Coding`).
 use Rattle.scratch.specs.Memory.{memory}
 use Prim.Native.Nat.{◌-◌, ◌≤◌}
-use native.Mathlib.Omega.{arith}
 use Rattle.labels.specs.Label.{Coding}
-use Rattle.labels.proofs.ReadLaws.{coding-none, coding-next, coding-all}
 use Rattle.labels.proofs.put_codes.Given as goal
 
 abbrev pub invariant-loop-c : goal.invariant-loop-c

@@ -1,6 +1,5 @@
 -- `enter` meets its contract.
 use mathlib.Core.Path.{sym, ◌∙◌}
-use borrow.Author.Rules.{rules}
 use Rattle.limits.proofs.EntryLaws.{entered_by_lem}
 use Rattle.limits.proofs.enter.Goals as goal
 

@@ -1,7 +1,6 @@
 -- `judge` meets its contract: the selection is too short, then the day is over 6, then a byte is over 1.
 use mathlib.Core.Path.{sym, ◌∙◌}
 use native.Mathlib.Omega.{arith}
-use borrow.Author.Rules.{rules}
 use Rattle.limits.proofs.EntryLaws.{judged-short, judged-day, judged-value, judged-is}
 use Rattle.limits.proofs.judge.Goals as goal
 

@@ -1,7 +1,6 @@
 -- `rank_in` meets its contract: a file that is entered is ready for the body, and each answer is that of the definition.
 use mathlib.Core.Path.{refl, sym, ◌∙◌}
 use native.Mathlib.Omega.{arith}
-use borrow.Author.Rules.{rules}
 use Rattle.limits.proofs.EntryLaws.{entered-ready}
 use Rattle.limits.proofs.AnswerLaws.{ranked-value, ranked-side, answered-by}
 use Rattle.limits.proofs.rank_in.Goals as goal

@@ -1,6 +1,5 @@
 -- The arc is open where the prices are the same and the group's side asks for no place, or it has one left.
 use Rattle.look.proofs.LookLaws.{up-leads}
-use borrow.Author.Rules.{rules}
 use Rattle.look.proofs.leads_up.Goals as goal
 
 pub returns : goal.returns

@@ -8,7 +8,6 @@ use native.Mathlib.Omega.{arith}
 use lib.Dec.{eqb}
 use Rattle.theory.proofs.TestLaws.{pick-most}
 use Rattle.look.proofs.StepLaws.{label-fits, tried_of}
-use borrow.Author.Rules.{rules}
 use Rattle.look.proofs.look.Goals as goal
 use Rattle.look.proofs.look.Goals.{Start}
 

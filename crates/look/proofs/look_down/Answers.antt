@@ -2,7 +2,6 @@
 -- asks for no place, or the child has one left.
 use Prim.Native.Nat.{◌+◌}
 use native.Mathlib.Omega.{arith}
-use borrow.Author.Rules.{rules}
 use Rattle.look.proofs.LookLaws.{down-leads}
 use Rattle.look.proofs.StepLaws.{looking-most, looked-by, pick_yes, pick_no}
 use Rattle.look.proofs.look_down.Goals as goal

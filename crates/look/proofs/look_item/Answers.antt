@@ -4,7 +4,6 @@ use Rattle.scratch.specs.Memory.{memory}
 use mathlib.Core.Path.{refl, sym, ap}
 use mathlib.Core.Logic.{inl, inr}
 use mathlib.Core.Bool.{not}
-use borrow.Author.Rules.{rules}
 use Rattle.theory.specs.Network.{Network}
 use Rattle.scratch.specs.View.{net_of}
 use Rattle.look.proofs.ReachLaws.{arc-row, arc-child}

@@ -2,7 +2,6 @@
 use native.Mathlib.Omega.{arith}
 use Rattle.look.proofs.LookLaws.{row-leads}
 use Rattle.look.proofs.StepLaws.{looking-most, looked-tried, ends-below}
-use borrow.Author.Rules.{rules}
 use Rattle.look.proofs.look_row.Goals as goal
 
 pub look-requires : goal.look-requires

@@ -1,7 +1,6 @@
 -- The arc between a group and its parent: up along the arcs, down against them. Whether it is a step was asked first.
 use Prim.Native.Nat.{◌+◌}
 use native.Mathlib.Omega.{arith}
-use borrow.Author.Rules.{rules}
 use Rattle.look.proofs.StepLaws.{looking-most, looked-by, pick_yes, pick_no, up-node}
 use Rattle.look.proofs.look_up.Goals as goal
 

@@ -1,7 +1,6 @@
 -- A root has price 0: where v is no group, a price that is not used is read at u.
 use Rattle.scratch.specs.Memory.{memory}
 use Rattle.look.proofs.LookLaws.{price-told}
-use borrow.Author.Rules.{rules}
 use Rattle.look.proofs.price_above.Goals as goal
 
 pub returns : goal.returns

@@ -1,5 +1,4 @@
 -- Both ends are reached, and the search goes on from them.
-use borrow.Author.Rules.{rules}
 use Rattle.meet.proofs.search_both.Goals as goal
 
 pub start_both-requires : goal.start_both-requires

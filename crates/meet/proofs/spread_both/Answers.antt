@@ -1,11 +1,8 @@
 use mathlib.Core.Path.{◌≡◌, refl}
-use Prim.Native.Nat.{◌+◌, ◌*◌, ◌-◌, ◌<◌}
+use Prim.Native.Nat.{◌-◌, ◌<◌}
 use native.Mathlib.Omega.{arith}
-use lib.ListN.{length}
 use borrow.Author.Rules.{rules}
-use Rattle.scratch.specs.Memory.{memory}
-use Rattle.meet.specs.Meet.{Begun}
-use Rattle.meet.proofs.SearchLaws.{Going, tested, going-hit, going-first, going-most, going-room, going-out, going-in}
+use Rattle.meet.proofs.SearchLaws.{tested, going-hit, going-first, going-most, going-room, going-out, going-in}
 use Rattle.meet.proofs.SearchLaws.{going-next-out, going-next-in, going_end}
 use Rattle.meet.proofs.spread_both.Goals as goal
 use Rattle.meet.proofs.spread_both.Goals.{In-loop-h}

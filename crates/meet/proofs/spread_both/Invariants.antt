@@ -1,14 +1,11 @@
 -- The invariant, `Going`: the first h nodes from the start and the first k from the target are done, and no step from them leads to a fresh
 -- node or to the other end. Each turn does one node more; there are no more than the nodes of both ends.
-use mathlib.Core.Path.{◌≡◌, refl}
-use Prim.Native.Nat.{◌+◌, ◌*◌, ◌-◌, ◌<◌}
-use native.Mathlib.Omega.{arith}
+use mathlib.Core.Path.{◌≡◌}
+use Prim.Native.Nat.{◌+◌, ◌*◌, ◌-◌}
 use lib.ListN.{length}
-use borrow.Author.Rules.{rules}
 use Rattle.scratch.specs.Memory.{memory}
 use Rattle.meet.specs.Meet.{Begun}
-use Rattle.meet.proofs.SearchLaws.{Going, tested, going-hit, going-first, going-most, going-room, going-out, going-in}
-use Rattle.meet.proofs.SearchLaws.{going-next-out, going-next-in, going_end}
+use Rattle.meet.proofs.SearchLaws.{Going}
 use Rattle.meet.proofs.spread_both.Given as goal
 
 abbrev pub invariant-loop-h : goal.invariant-loop-h

@@ -3,7 +3,6 @@ use native.Mathlib.Omega.{arith}
 use mathlib.Core.Path.{refl, ◌∙◌}
 use Rattle.scratch.proofs.MapLaws.{room-keeps}
 use Rattle.meet.proofs.SearchLaws.{held_start}
-use borrow.Author.Rules.{rules}
 use Rattle.meet.proofs.start_both.Goals as goal
 
 pub overflow_add-g : goal.overflow_add-g

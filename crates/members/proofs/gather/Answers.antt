@@ -1,8 +1,7 @@
 use mathlib.Core.Path.{◌≡◌, sym, ap, ◌∙◌}
-use Prim.Native.Nat.{◌-◌, ◌≤◌}
+use Prim.Native.Nat.{◌-◌}
 use native.Mathlib.Omega.{arith}
 use lib.ListN.{length}
-use Rattle.theory.specs.Sum.{sum}
 use Rattle.theory.proofs.SumLaws.{sum-next}
 use Rattle.claimfile.specs.File.{new_week}
 use Rattle.reader.proofs.AcceptedLaws.{accepted-sound}
@@ -10,7 +9,6 @@ use Rattle.members.specs.Members.{length_of, reading_of, AllOf, gathered, judged
 use Rattle.counters.proofs.PartLaws.{sum-none}
 use Rattle.members.proofs.GatherLaws.{member-within, member-read, fit-lengths}
 use Rattle.members.proofs.GatherLaws.{gathered_none, gathered-more, gathered-fault, gathered-small}
-use borrow.Author.Rules.{rules}
 use Rattle.members.proofs.gather.Goals as goal
 
 pub loop-k-init : goal.loop-k-init

@@ -1,7 +1,6 @@
 -- `judge_sizes` meets its contract: sizes that are not too large are ready.
 use mathlib.Core.Path.{sym, ◌∙◌}
 use Rattle.members.proofs.GatherLaws.{sizes-large, sizes-ready}
-use borrow.Author.Rules.{rules}
 use Rattle.members.proofs.judge_sizes.Goals as goal
 
 pub returns-then-too_large : goal.returns-then-too_large

@@ -4,7 +4,6 @@ use Prim.Native.Nat.{ℕ}
 use native.Mathlib.Omega.{arith}
 use lib.Dec.{eqb}
 use Rattle.members.proofs.GatherLaws.{lengths_none, lengths-many, lengths-sum}
-use borrow.Author.Rules.{rules}
 use Rattle.members.proofs.lengths_fit.Goals as goal
 
 pub returns-then-n-eq0 : goal.returns-then-n-eq0

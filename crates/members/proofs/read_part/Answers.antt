@@ -5,7 +5,6 @@ use native.Mathlib.Omega.{arith}
 use Rattle.claimfile.specs.File.{new_week}
 use Rattle.reader.specs.Reading.{reading}
 use Rattle.members.specs.Members.{part_at}
-use borrow.Author.Rules.{rules}
 use Rattle.members.proofs.read_part.Goals as goal
 
 pub returns : goal.returns

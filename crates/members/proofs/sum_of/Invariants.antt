@@ -1,12 +1,8 @@
 -- `sum_of` meets its contract: the loop keeps the sum so far, and that it is small enough for the next length.
 use mathlib.Core.Path.{◌≡◌}
 use Prim.Native.Nat.{◌*◌, ◌-◌, ◌≤◌}
-use native.Mathlib.Omega.{arith}
-use lib.ListN.{length}
 use Rattle.theory.specs.Sum.{sum}
-use Rattle.theory.proofs.SumLaws.{sum-next}
 use Rattle.members.specs.Members.{length_of}
-use Rattle.counters.proofs.PartLaws.{sum-none}
 use Rattle.members.proofs.sum_of.Given as goal
 
 abbrev pub invariant-loop-k : goal.invariant-loop-k

@@ -1,7 +1,6 @@
 -- `too_large` meets its contract: one bound after the other.
 use native.Mathlib.Omega.{arith}
 use Rattle.members.proofs.GatherLaws.{large-cards, large-shops, large-rows}
-use borrow.Author.Rules.{rules}
 use Rattle.members.proofs.too_large.Goals as goal
 
 pub returns-then-sizes-gt-MAX_GROUPS : goal.returns-then-sizes-gt-MAX_GROUPS

@@ -1,8 +1,6 @@
 -- Each case of the answer is given by its numbers (`joined_numbers`), and a place below eight fits 32 bits.
 use mathlib.Core.Path.{sym, ap, ◌∙◌}
 use Prim.Native.Nat.{ℕ}
-use native.Mathlib.Omega.{arith}
-use borrow.Author.Rules.{rules}
 use Rattle.joined.specs.Call.{joined_numbers}
 use Rattle.numbers.proofs.joined_numbers.Goals as goal
 

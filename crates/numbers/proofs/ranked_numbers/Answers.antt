@@ -2,9 +2,7 @@
 use mathlib.Core.Path.{sym, ap, ◌∙◌}
 use Prim.Native.Nat.{ℕ}
 use native.Mathlib.Omega.{arith}
-use borrow.Author.Rules.{rules}
 use Rattle.limits.specs.Answers.{ranked_numbers}
-use Rattle.numbers.proofs.NumberLaws.{byte-bit}
 use Rattle.numbers.proofs.ranked_numbers.Goals as goal
 
 pub overflow_cast-result-in-Told : goal.overflow_cast-result-in-Told

@@ -1,7 +1,6 @@
 -- Each case of the answer is given by its numbers (`settled_kinds_numbers`).
 use mathlib.Core.Path.{sym, ap, ◌∙◌}
 use Prim.Native.Nat.{ℕ}
-use borrow.Author.Rules.{rules}
 use Rattle.kinds.specs.Settle.{settled_kinds_numbers}
 use Rattle.numbers.proofs.settled_kinds_numbers.Goals as goal
 

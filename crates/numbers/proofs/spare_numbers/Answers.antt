@@ -2,7 +2,6 @@
 use mathlib.Core.Path.{sym, ap, ◌∙◌}
 use Prim.Native.Nat.{ℕ}
 use native.Mathlib.Omega.{arith}
-use borrow.Author.Rules.{rules}
 use Rattle.spare.specs.Spare.{spare_numbers}
 use Rattle.numbers.proofs.spare_numbers.Goals as goal
 

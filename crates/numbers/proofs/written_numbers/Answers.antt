@@ -1,7 +1,6 @@
 -- Each case of the answer is given by its numbers (`written_numbers`).
 use mathlib.Core.Path.{sym, ap, ◌∙◌}
 use Prim.Native.Nat.{ℕ}
-use borrow.Author.Rules.{rules}
 use Rattle.refusal.specs.Writing.{written_numbers}
 use Rattle.numbers.proofs.written_numbers.Goals as goal
 

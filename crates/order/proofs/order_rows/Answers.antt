@@ -1,10 +1,7 @@
-use Rattle.scratch.specs.Memory.{memory}
 use borrow.Author.Rules.{rules}
-use mathlib.Core.Path.{◌≡◌, refl, ◌∙◌}
-use Prim.Native.Nat.{◌-◌, ◌≤◌}
+use mathlib.Core.Path.{refl, ◌∙◌}
+use Prim.Native.Nat.{◌-◌}
 use native.Mathlib.Omega.{arith}
-use lib.ListN.{length}
-use Rattle.order.specs.Order.{Placed}
 use Rattle.order.proofs.OrderLaws.{placed-start, placed-then, placed-all, at_next}
 use Rattle.order.proofs.order_rows.Goals as goal
 

@@ -1,13 +1,10 @@
 -- The loop's invariant, `Placed`: the rows below i are in order and in no list, and there are `next` classes. Placing row i gives the same for
 -- i + 1 (`placed-then`).
 use Rattle.scratch.specs.Memory.{memory}
-use borrow.Author.Rules.{rules}
-use mathlib.Core.Path.{◌≡◌, refl, ◌∙◌}
+use mathlib.Core.Path.{◌≡◌}
 use Prim.Native.Nat.{◌-◌, ◌≤◌}
-use native.Mathlib.Omega.{arith}
 use lib.ListN.{length}
 use Rattle.order.specs.Order.{Placed}
-use Rattle.order.proofs.OrderLaws.{placed-start, placed-then, placed-all, at_next}
 use Rattle.order.proofs.order_rows.Given as goal
 
 abbrev pub invariant-loop-i : goal.invariant-loop-i

@@ -1,9 +1,7 @@
 -- The row leaves its lists, which changes nothing else (`drop-placing`). It stays as it is where `stays` says so (`placed-still`). Else it is
 -- left out and its nodes are of one class, so a swap may be tried under the shape of that class (`swapping-class`), and what the swap
 -- promises holds under the old shape too (`placed-class`).
-use mathlib.Core.Path.{refl, ◌∙◌}
 use native.Mathlib.Omega.{arith}
-use borrow.Author.Rules.{rules}
 use Rattle.prices.proofs.ReadyLaws.{state-linkable}
 use Rattle.order.proofs.OrderLaws.{card-node, drop-placing, drop-filled, placed-still, placed-then, swapping-class, placed-class}
 use Rattle.order.proofs.place_row.Goals as goal

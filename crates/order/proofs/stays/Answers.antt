@@ -1,6 +1,5 @@
 -- Each of the three tests is a reason for the row to stay, and where none holds it is left out, costs its weight, and has two nodes of one
 -- class (`stays-any`).
-use borrow.Author.Rules.{rules}
 use Rattle.order.proofs.OrderLaws.{stays-any}
 use Rattle.order.proofs.stays.Goals as goal
 

@@ -1,8 +1,6 @@
 -- Where the search did not meet, no rows make way for the row (`swap-blocked`). Else the path is turned and the row goes in
 -- (`swap-crossed`).
-use mathlib.Core.Path.{refl, ◌∙◌}
 use native.Mathlib.Omega.{arith}
-use borrow.Author.Rules.{rules}
 use Rattle.order.proofs.SwapLaws.{swap-asked, swap-label, swap-queued, swap-blocked, swap-meeting, swap-crossed}
 use Rattle.order.proofs.swap_in.Goals as goal
 
@@ -18,7 +16,7 @@ overflow_mul-next c = omega (arith, swap-label c.requires)
 pub name_ends-requires : goal.name_ends-requires
 name_ends-requires c =
     record {
-      fact = swap-queued c.requires c.search_both-ends.ensures;
+      queues = swap-queued c.requires c.search_both-ends.ensures;
       x_lt_cell_bound = swap-label c.requires;
     }
 

@@ -2,7 +2,6 @@
 use mathlib.Core.Path.{sym, subst, ◌∙◌}
 use Prim.Native.Nat.{ℕ}
 use native.Mathlib.Omega.{arith}
-use borrow.Author.Rules.{rules}
 use Rattle.reader.proofs.AcceptedLaws.{accepted-day, accepted-sound, accepted-kinds}
 use Rattle.text.specs.Buffer.{Written}
 use Rattle.report.specs.Text.{refused_text}

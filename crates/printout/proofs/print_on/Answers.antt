@@ -2,7 +2,6 @@
 use mathlib.Core.Path.{subst}
 use Prim.Native.Nat.{ℕ}
 use native.Mathlib.Omega.{arith}
-use borrow.Author.Rules.{rules}
 use Rattle.claimfile.specs.Day.{instance_of}
 use Rattle.closing.proofs.Demand.{closed_on}
 use Rattle.text.specs.Buffer.{Written}

@@ -1,11 +1,10 @@
 use mathlib.Core.Path.{sym, ◌∙◌, ap}
 use Prim.Native.Nat.{◌-◌}
 use native.Mathlib.Omega.{arith}
-use borrow.Author.Rules.{rules}
 use Rattle.reader.specs.Reading.{refused_by}
 use Rattle.reader.specs.Sections.{place_on}
 use Rattle.reader.proofs.FileLaws.{claims-fault, trailing, accepted}
-use Rattle.reader.proofs.ReadLaws.{ReadTo, read-start, read_next, read-fault, read-cards, read-shops}
+use Rattle.reader.proofs.ReadLaws.{read-start, read_next, read-fault, read-cards, read-shops}
 use Rattle.reader.proofs.read_in.Goals as goal
 
 pub loop-side-init : goal.loop-side-init

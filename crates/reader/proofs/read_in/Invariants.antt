@@ -1,13 +1,7 @@
 -- `read_in` meets its contract. The loop keeps that the group sections of the sides before `side` were read, with their counts and
 -- places, and that the next section stands at `at` (`ReadTo`); the first fault met is told of the file.
-use mathlib.Core.Path.{sym, ◌∙◌, ap}
 use Prim.Native.Nat.{◌-◌}
-use native.Mathlib.Omega.{arith}
-use borrow.Author.Rules.{rules}
-use Rattle.reader.specs.Reading.{refused_by}
-use Rattle.reader.specs.Sections.{place_on}
-use Rattle.reader.proofs.FileLaws.{claims-fault, trailing, accepted}
-use Rattle.reader.proofs.ReadLaws.{ReadTo, read-start, read_next, read-fault, read-cards, read-shops}
+use Rattle.reader.proofs.ReadLaws.{ReadTo}
 use Rattle.reader.proofs.read_in.Given as goal
 
 abbrev pub invariant-loop-side : goal.invariant-loop-side

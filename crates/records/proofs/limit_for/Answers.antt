@@ -1,7 +1,6 @@
 -- `limit_for` meets its contract: a parent that is no group of the new file stands for the top, and the limit stays; else the
 -- answer is the lesser of the limit and the one that stands in the parent's record for the same day.
 use native.Mathlib.Omega.{arith}
-use borrow.Author.Rules.{rules}
 use Rattle.records.proofs.RecordLaws.{limit-lower, limit-past}
 use Rattle.records.proofs.limit_for.Goals as goal
 

@@ -1,11 +1,10 @@
 use mathlib.Core.Path.{◌≡◌, refl, ap}
-use Prim.Native.Nat.{◌-◌, ◌≤◌}
+use Prim.Native.Nat.{◌-◌}
 use native.Mathlib.Omega.{arith}
-use borrow.Author.Rules.{rules}
 use Rattle.claimfile.specs.declared.Group.{Group}
 use Rattle.claimfile.specs.File.{days}
 use Rattle.claimfile.specs.Day.{group_of, on_day}
-use Rattle.records.specs.Records.{limit_for, LimitsTo}
+use Rattle.records.specs.Records.{limit_for}
 use Rattle.renumber.proofs.DayLaws.{day-asked, day-limit}
 use Rattle.records.proofs.RecordLaws.{limits-start, limits-next}
 use Rattle.records.proofs.limits_for.Goals as goal

@@ -1,7 +1,6 @@
 -- `parent_for` meets its contract: a number that is no smaller group stands for the top, and a smaller one is looked up.
 use mathlib.Core.Path.{sym, ◌∙◌}
 use native.Mathlib.Omega.{arith}
-use borrow.Author.Rules.{rules}
 use Rattle.records.proofs.RecordLaws.{for-lower, for-top}
 use Rattle.records.proofs.parent_for.Goals as goal
 

@@ -1,7 +1,6 @@
 -- `put_record` meets its contract: a group whose cell is 256 or more is dropped, and nothing is put; the record of any other is
 -- put at the place of its number, with its parent in the new numbers and each limit lowered to the one that was put for that parent.
 use native.Mathlib.Omega.{arith}
-use borrow.Author.Rules.{rules}
 use Rattle.records.proofs.PutLaws.{group-most, put-dropped, number-placed, put-used}
 use Rattle.records.proofs.put_record.Goals as goal
 

@@ -1,7 +1,4 @@
-use Prim.Native.Nat.{ℕ, ◌≤◌, ◌<◌}
 use native.Mathlib.Omega.{arith}
-use borrow.Author.Rules.{rules}
-use Rattle.theory.specs.Bounds.{max_groups}
 use Rattle.renumber.proofs.WalkLaws.{climbs-inside, climbs-some, climbs-up, climb-none, climb-top, climb-up}
 use Rattle.renumber.proofs.+number_up.Goals as goal
 

@@ -1,10 +1,5 @@
 -- `number_up` meets its contract: with g as the measure, each call gives group g the last number, and the call from its parent,
 -- which is smaller, gives those above it the numbers before.
-use Prim.Native.Nat.{ℕ, ◌≤◌, ◌<◌}
-use native.Mathlib.Omega.{arith}
-use borrow.Author.Rules.{rules}
-use Rattle.theory.specs.Bounds.{max_groups}
-use Rattle.renumber.proofs.WalkLaws.{climbs-inside, climbs-some, climbs-up, climb-none, climb-top, climb-up}
 use Rattle.renumber.proofs.+number_up.Given as goal
 
 abbrev pub decreases-number_up : goal.decreases-number_up

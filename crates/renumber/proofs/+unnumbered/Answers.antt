@@ -1,6 +1,4 @@
-use Prim.Native.Nat.{ℕ, ◌<◌}
 use native.Mathlib.Omega.{arith}
-use borrow.Author.Rules.{rules}
 use Rattle.renumber.proofs.WalkLaws.{count_none, count-top, count-up}
 use Rattle.renumber.proofs.+unnumbered.Goals as goal
 

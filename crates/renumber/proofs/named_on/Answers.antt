@@ -1,7 +1,6 @@
 -- `named_on` meets its contract: the claim names the group on either side, and a side has at most 256.
 use mathlib.Core.Path.{ap}
 use native.Mathlib.Omega.{arith}
-use borrow.Author.Rules.{rules}
 use Rattle.claimfile.specs.declared.Claim.{Claim}
 use Rattle.renumber.proofs.NumberLaws.{named-card, named-shop}
 use Rattle.renumber.proofs.named_on.Goals as goal

@@ -1,7 +1,6 @@
 -- `number_row` meets its contract: before a row the groups with a lower lowest row have their numbers (`Rowed`); the first walk
 -- counts those with this lowest row, which are the named group and groups above it, and the second walk numbers them.
 use native.Mathlib.Omega.{arith}
-use borrow.Author.Rules.{rules}
 use Rattle.renumber.proofs.NumberLaws.{rowed-few, rowed-climbs, rowed-next}
 use Rattle.renumber.proofs.number_row.Goals as goal
 

@@ -1,7 +1,5 @@
-use Prim.Native.Nat.{◌-◌, ◌≤◌}
+use Prim.Native.Nat.{◌-◌}
 use native.Mathlib.Omega.{arith}
-use Rattle.renumber.specs.Canonical.{side_of}
-use Rattle.renumber.specs.Numbers.{Rowed}
 use Rattle.renumber.proofs.DayLaws.{side-sound}
 use Rattle.renumber.proofs.NumberLaws.{rowed-as, rowed-end}
 use Rattle.renumber.proofs.number_rows.Goals as goal

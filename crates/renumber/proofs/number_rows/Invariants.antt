@@ -1,11 +1,8 @@
 -- `number_rows` meets its contract: the loop keeps that the table is the one before row c (`Rowed`), and after the last row every
 -- used group has its number.
 use Prim.Native.Nat.{◌-◌, ◌≤◌}
-use native.Mathlib.Omega.{arith}
 use Rattle.renumber.specs.Canonical.{side_of}
 use Rattle.renumber.specs.Numbers.{Rowed}
-use Rattle.renumber.proofs.DayLaws.{side-sound}
-use Rattle.renumber.proofs.NumberLaws.{rowed-as, rowed-end}
 use Rattle.renumber.proofs.number_rows.Given as goal
 
 abbrev pub invariant-loop-c : goal.invariant-loop-c

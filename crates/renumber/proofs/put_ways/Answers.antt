@@ -1,12 +1,9 @@
-use mathlib.Core.Path.{◌≡◌}
-use Prim.Native.Nat.{◌-◌, ◌≤◌}
+use Prim.Native.Nat.{◌-◌}
 use native.Mathlib.Omega.{arith}
-use lib.ListN.{length, length-set}
-use borrow.Author.Rules.{rules}
-use Rattle.theory.specs.Bounds.{max_groups}
+use lib.ListN.{length-set}
 use Rattle.claimfile.proofs.DayLaws.{side-most}
 use Rattle.renumber.specs.Canonical.{side_of}
-use Rattle.renumber.proofs.NumberLaws.{WaysTo, ways-step, ways-rowed}
+use Rattle.renumber.proofs.NumberLaws.{ways-step, ways-rowed}
 use Rattle.renumber.proofs.put_ways.Goals as goal
 
 pub loop-g-init : goal.loop-g-init

@@ -2,13 +2,10 @@
 -- cells; the side has no more groups.
 use mathlib.Core.Path.{◌≡◌}
 use Prim.Native.Nat.{◌-◌, ◌≤◌}
-use native.Mathlib.Omega.{arith}
-use lib.ListN.{length, length-set}
-use borrow.Author.Rules.{rules}
+use lib.ListN.{length}
 use Rattle.theory.specs.Bounds.{max_groups}
-use Rattle.claimfile.proofs.DayLaws.{side-most}
 use Rattle.renumber.specs.Canonical.{side_of}
-use Rattle.renumber.proofs.NumberLaws.{WaysTo, ways-step, ways-rowed}
+use Rattle.renumber.proofs.NumberLaws.{WaysTo}
 use Rattle.renumber.proofs.put_ways.Given as goal
 
 abbrev pub invariant-loop-g : goal.invariant-loop-g

@@ -1,7 +1,6 @@
 -- `way_from` meets its contract, one law a case; a parent is below 256.
 use mathlib.Core.Path.{ap}
 use native.Mathlib.Omega.{arith}
-use borrow.Author.Rules.{rules}
 use Rattle.claimfile.specs.declared.Group.{Group}
 use Rattle.claimfile.proofs.DayLaws.{side-most}
 use Rattle.renumber.proofs.CellLaws.{way-lower, way-root}

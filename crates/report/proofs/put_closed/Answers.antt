@@ -3,10 +3,9 @@
 use mathlib.Core.List.{List}
 use Prim.Native.Nat.{ℕ, ◌+◌, ◌^◌, ◌<◌}
 use native.Mathlib.Omega.{arith}
-use borrow.Author.Rules.{rules}
 use lib.ListN.{length}
 use Rattle.theory.specs.Matroid.{row}
-use Rattle.text.proofs.BufferLaws.{then, kept-length}
+use Rattle.text.proofs.BufferLaws.{then}
 use Rattle.claimfile.specs.Day.{kind_of}
 use Rattle.report.specs.Text.{first_line, row_lines, last_line, closed_text}
 use Rattle.report.proofs.TextLaws.{closed-room}

@@ -1,8 +1,7 @@
 -- `put_row` meets its contract: the number, the fate, the kind and a line feed, which are four appends and so one.
 use native.Mathlib.Omega.{arith}
-use borrow.Author.Rules.{rules}
 use lib.ListN.{length-append}
-use Rattle.text.proofs.BufferLaws.{then, kept-length}
+use Rattle.text.proofs.BufferLaws.{then}
 use Rattle.report.specs.Text.{fate as fate_word, kind_word, row_line}
 use Rattle.report.proofs.put_row.Goals as goal
 

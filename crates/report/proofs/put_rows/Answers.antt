@@ -1,9 +1,8 @@
 use mathlib.Core.Path.{◌≡◌, ap}
-use Prim.Native.Nat.{◌-◌, ◌≤◌}
+use Prim.Native.Nat.{◌-◌}
 use native.Mathlib.Omega.{arith}
 use Rattle.theory.specs.Matroid.{row}
-use Rattle.text.specs.Buffer.{Appended}
-use Rattle.text.proofs.BufferLaws.{none, then, kept-length}
+use Rattle.text.proofs.BufferLaws.{none, then}
 use Rattle.claimfile.specs.declared.Claim.{Claim}
 use Rattle.claimfile.specs.Day.{kind_of}
 use Rattle.report.specs.Text.{row_lines}

@@ -1,14 +1,9 @@
 -- `put_rows` meets its contract. The loop's invariant: the lines of the first `c` rows are appended. A turn appends one line more.
-use mathlib.Core.Path.{◌≡◌, ap}
 use Prim.Native.Nat.{◌-◌, ◌≤◌}
-use native.Mathlib.Omega.{arith}
 use Rattle.theory.specs.Matroid.{row}
 use Rattle.text.specs.Buffer.{Appended}
-use Rattle.text.proofs.BufferLaws.{none, then, kept-length}
-use Rattle.claimfile.specs.declared.Claim.{Claim}
 use Rattle.claimfile.specs.Day.{kind_of}
 use Rattle.report.specs.Text.{row_lines}
-use Rattle.report.proofs.TextLaws.{rows_more, rows-within}
 use Rattle.report.proofs.put_rows.Given as goal
 
 abbrev pub invariant-loop-c : goal.invariant-loop-c

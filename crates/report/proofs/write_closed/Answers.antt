@@ -3,7 +3,6 @@
 use mathlib.Core.List.{List}
 use Prim.Native.Nat.{ℕ}
 use native.Mathlib.Omega.{arith}
-use borrow.Author.Rules.{rules}
 use Rattle.theory.specs.Matroid.{row}
 use Rattle.text.proofs.BufferLaws.{whole, short}
 use Rattle.claimfile.specs.Day.{kind_of}

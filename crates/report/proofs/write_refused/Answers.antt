@@ -2,7 +2,6 @@
 -- into the buffer where it fits.
 use Prim.Native.Nat.{◌^◌, ◌<◌}
 use native.Mathlib.Omega.{arith}
-use borrow.Author.Rules.{rules}
 use lib.ListN.{length}
 use Rattle.text.proofs.BufferLaws.{whole, short}
 use Rattle.report.specs.Text.{refused_text}

@@ -1,11 +1,8 @@
-use Rattle.scratch.specs.Memory.{memory}
-use mathlib.Core.Path.{◌≡◌, refl}
-use lib.ListN.{length}
+use mathlib.Core.Path.{refl}
 use native.Mathlib.Omega.{arith}
-use Prim.Native.Nat.{◌+◌, ◌-◌, ◌≤◌}
+use Prim.Native.Nat.{◌-◌}
 use native.Mathlib.Nat.{le_antisymm}
 use borrow.Author.Rules.{rules}
-use Rattle.search.specs.Search.{Refreshed}
 use Rattle.scratch.proofs.MapLaws.{room-keeps}
 use Rattle.search.proofs.QueueLaws.{fresh-none, fresh-more}
 use Rattle.search.proofs.refresh.Goals as goal

@@ -1,14 +1,9 @@
 -- The loop's invariant: the nodes below v are fresh, and only labels changed.
 use Rattle.scratch.specs.Memory.{memory}
-use mathlib.Core.Path.{◌≡◌, refl}
+use mathlib.Core.Path.{◌≡◌}
 use lib.ListN.{length}
-use native.Mathlib.Omega.{arith}
 use Prim.Native.Nat.{◌+◌, ◌-◌, ◌≤◌}
-use native.Mathlib.Nat.{le_antisymm}
-use borrow.Author.Rules.{rules}
 use Rattle.search.specs.Search.{Refreshed}
-use Rattle.scratch.proofs.MapLaws.{room-keeps}
-use Rattle.search.proofs.QueueLaws.{fresh-none, fresh-more}
 use Rattle.search.proofs.refresh.Given as goal
 
 abbrev pub invariant-loop-v : goal.invariant-loop-v

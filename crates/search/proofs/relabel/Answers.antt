@@ -1,11 +1,8 @@
-use Rattle.scratch.specs.Memory.{memory}
 use borrow.Author.Rules.{rules}
-use mathlib.Core.Path.{◌≡◌, refl, ◌∙◌}
-use lib.ListN.{length}
+use mathlib.Core.Path.{refl, ◌∙◌}
 use native.Mathlib.Omega.{arith}
-use Prim.Native.Nat.{◌-◌, ◌≤◌}
+use Prim.Native.Nat.{◌-◌}
 use native.Mathlib.Nat.{le_antisymm}
-use Rattle.search.specs.Search.{Relabelled}
 use Rattle.scratch.proofs.MapLaws.{room-keeps}
 use Rattle.search.proofs.QueueLaws.{labels-none, labels-read, labels-more}
 use Rattle.search.proofs.relabel.Goals as goal

@@ -1,15 +1,10 @@
 -- The loop's invariant: the nodes in the first i places of the queue have the label x, the others their old one. Only labels change, so the
 -- queue that is read is still the one at entry (`labels-read`).
 use Rattle.scratch.specs.Memory.{memory}
-use borrow.Author.Rules.{rules}
-use mathlib.Core.Path.{◌≡◌, refl, ◌∙◌}
+use mathlib.Core.Path.{◌≡◌}
 use lib.ListN.{length}
-use native.Mathlib.Omega.{arith}
 use Prim.Native.Nat.{◌-◌, ◌≤◌}
-use native.Mathlib.Nat.{le_antisymm}
 use Rattle.search.specs.Search.{Relabelled}
-use Rattle.scratch.proofs.MapLaws.{room-keeps}
-use Rattle.search.proofs.QueueLaws.{labels-none, labels-read, labels-more}
 use Rattle.search.proofs.relabel.Given as goal
 
 abbrev pub invariant-loop-i : goal.invariant-loop-i

@@ -1,12 +1,9 @@
-use mathlib.Core.Path.{◌≡◌, refl, ◌∙◌}
-use Prim.Native.Nat.{◌+◌, ◌-◌, ◌≤◌}
+use mathlib.Core.Path.{refl, ◌∙◌}
+use Prim.Native.Nat.{◌+◌, ◌-◌}
 use native.Mathlib.Nat.{le_antisymm}
 use native.Mathlib.Omega.{arith}
-use lib.ListN.{length}
 use borrow.Author.Rules.{rules}
-use Rattle.scratch.specs.Memory.{memory}
 use Rattle.scratch.proofs.MapLaws.{room-keeps}
-use Rattle.search.specs.Search.{RelabelledIn, from_last}
 use Rattle.search.proofs.QueueLaws.{labels-none, labels-read, labels-more}
 use Rattle.search.proofs.relabel_last.Goals as goal
 
@@ -14,15 +11,15 @@ pub loop-i-init : goal.loop-i-init
 loop-i-init c = ((labels-none, omega arith), (refl, refl))
 
 pub overflow_add-g : goal.overflow_add-g
-overflow_add-g c = omega (arith, c.requires.fact.room.few.groups)
+overflow_add-g c = omega (arith, c.requires.queued.room.few.groups)
 
 pub overflow_sub-g : goal.overflow_sub-g
-overflow_sub-g c = omega (arith, c.loop-i-test.true, c.requires.fact.most)
+overflow_sub-g c = omega (arith, c.loop-i-test.true, c.requires.queued.most)
 
 pub queue-v-requires : goal.queue-v-requires
 queue-v-requires c =
     record {
-      room = room-keeps c.loop-i.invariant.0.0.only.long c.requires.fact.room;
+      room = room-keeps c.loop-i.invariant.0.0.only.long c.requires.queued.room;
       i_bound = omega arith;
     }
 
@@ -31,12 +28,12 @@ set_label-requires c =
     let L = c.loop-i in
     let at = c.args.sh.groups + 2 - L.i in
     record {
-      room = room-keeps L.invariant.0.0.only.long c.requires.fact.room;
+      room = room-keeps L.invariant.0.0.only.long c.requires.queued.room;
       v_bound = omega (
         arith,
         c.queue-v.ensures,
         labels-read L.invariant.0.0 at,
-        c.requires.fact.node L.i
+        c.requires.queued.node L.i
             c.loop-i-test.true,
       );
       x_lt_cell_bound = c.requires.x_lt_cell_bound;

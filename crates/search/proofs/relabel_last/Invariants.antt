@@ -1,15 +1,10 @@
 -- The loop's invariant: the nodes in the last i places of the queue have the label x, the others their old one. Only labels change, so the
 -- queue that is read is still the one at entry (`labels-read`).
-use mathlib.Core.Path.{◌≡◌, refl, ◌∙◌}
-use Prim.Native.Nat.{◌+◌, ◌-◌, ◌≤◌}
-use native.Mathlib.Nat.{le_antisymm}
-use native.Mathlib.Omega.{arith}
+use mathlib.Core.Path.{◌≡◌}
+use Prim.Native.Nat.{◌-◌, ◌≤◌}
 use lib.ListN.{length}
-use borrow.Author.Rules.{rules}
 use Rattle.scratch.specs.Memory.{memory}
-use Rattle.scratch.proofs.MapLaws.{room-keeps}
 use Rattle.search.specs.Search.{RelabelledIn, from_last}
-use Rattle.search.proofs.QueueLaws.{labels-none, labels-read, labels-more}
 use Rattle.search.proofs.relabel_last.Given as goal
 
 abbrev pub invariant-loop-i : goal.invariant-loop-i

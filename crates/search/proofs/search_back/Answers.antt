@@ -1,6 +1,5 @@
 -- The start is reached first, and the queue goes on from it against open arcs. The source is not fresh, and so it is not gone on from.
 use native.Mathlib.Omega.{arith}
-use borrow.Author.Rules.{rules}
 use Rattle.search.proofs.QueueLaws.{lit-seeded, lit-searched}
 use Rattle.search.proofs.search_back.Goals as goal
 

@@ -1,11 +1,8 @@
-use mathlib.Core.Path.{◌≡◌, refl, sym, ◌∙◌}
-use mathlib.Core.Bool.{true}
-use Prim.Native.Nat.{◌+◌, ◌-◌}
+use mathlib.Core.Path.{refl, sym, ◌∙◌}
+use Prim.Native.Nat.{◌-◌}
 use native.Mathlib.Omega.{arith}
-use lib.ListN.{length}
 use borrow.Author.Rules.{rules}
-use Rattle.scratch.specs.Memory.{memory}
-use Rattle.search.proofs.QueueLaws.{Going, going-first, going-most, going-room, going-open, going_next, going-found, going_end}
+use Rattle.search.proofs.QueueLaws.{going-first, going-most, going-room, going-open, going_next, going-found, going_end}
 use Rattle.search.proofs.spread_in.Goals as goal
 
 pub label-was-requires : goal.label-was-requires

@@ -1,13 +1,11 @@
 -- Of n reached nodes the first h are done: no step from them leads to a fresh node (`Going`). The target's label changes when it is
 -- reached, and never else.
-use mathlib.Core.Path.{◌≡◌, refl, sym, ◌∙◌}
+use mathlib.Core.Path.{◌≡◌}
 use mathlib.Core.Bool.{true}
 use Prim.Native.Nat.{◌+◌, ◌-◌}
-use native.Mathlib.Omega.{arith}
 use lib.ListN.{length}
-use borrow.Author.Rules.{rules}
 use Rattle.scratch.specs.Memory.{memory}
-use Rattle.search.proofs.QueueLaws.{Going, going-first, going-most, going-room, going-open, going_next, going-found, going_end}
+use Rattle.search.proofs.QueueLaws.{Going}
 use Rattle.search.proofs.spread_in.Given as goal
 
 abbrev pub invariant-loop-h : goal.invariant-loop-h

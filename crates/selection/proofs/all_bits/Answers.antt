@@ -1,7 +1,6 @@
 use mathlib.Core.Path.{sym}
-use Prim.Native.Nat.{ℕ, ◌-◌, ◌≤◌, ◌<◌}
+use Prim.Native.Nat.{◌-◌}
 use native.Mathlib.Omega.{arith}
-use lib.ListN.{get_or}
 use borrow.Author.Count.{below_more}
 use Rattle.selection.proofs.SelectionLaws.{bits-not, bits_are}
 use Rattle.selection.proofs.all_bits.Goals as goal

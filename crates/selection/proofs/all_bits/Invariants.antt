@@ -1,10 +1,6 @@
 -- The loop keeps that the bytes passed are 0 or 1. It is left at a byte over 1, or when all bytes are passed.
-use mathlib.Core.Path.{sym}
 use Prim.Native.Nat.{ℕ, ◌-◌, ◌≤◌, ◌<◌}
-use native.Mathlib.Omega.{arith}
 use lib.ListN.{get_or}
-use borrow.Author.Count.{below_more}
-use Rattle.selection.proofs.SelectionLaws.{bits-not, bits_are}
 use Rattle.selection.proofs.all_bits.Given as goal
 
 abbrev pub invariant-loop-c : goal.invariant-loop-c

@@ -1,7 +1,6 @@
 use mathlib.Core.Path.{◌≡◌}
-use Prim.Native.Nat.{◌-◌, ◌≤◌}
+use Prim.Native.Nat.{◌-◌}
 use native.Mathlib.Omega.{arith}
-use Rattle.selection.specs.Selection.{Counted}
 use Rattle.selection.proofs.CountLaws.{counted_none}
 use Rattle.selection.proofs.count_rows.Goals as goal
 

@@ -1,9 +1,6 @@
 -- The loop keeps that the rows passed are counted.
-use mathlib.Core.Path.{◌≡◌}
 use Prim.Native.Nat.{◌-◌, ◌≤◌}
-use native.Mathlib.Omega.{arith}
 use Rattle.selection.specs.Selection.{Counted}
-use Rattle.selection.proofs.CountLaws.{counted_none}
 use Rattle.selection.proofs.count_rows.Given as goal
 
 abbrev pub invariant-loop-c : goal.invariant-loop-c

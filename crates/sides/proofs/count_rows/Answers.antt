@@ -1,9 +1,8 @@
-use mathlib.Core.Path.{◌≡◌, refl}
+use mathlib.Core.Path.{refl}
 use Prim.Native.Nat.{◌-◌}
 use native.Mathlib.Omega.{arith}
-use lib.ListN.{length, length-set}
-use borrow.Author.Rules.{rules}
-use Rattle.sides.proofs.CountLaws.{Counting, counting-start, counting-small, counting-step, counting-end}
+use lib.ListN.{length-set}
+use Rattle.sides.proofs.CountLaws.{counting-start, counting-small, counting-step, counting-end}
 use Rattle.sides.proofs.count_rows.Goals as goal
 
 pub loop-c-init : goal.loop-c-init

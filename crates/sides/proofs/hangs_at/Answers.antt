@@ -3,7 +3,6 @@
 use mathlib.Core.Path.{◌∙◌}
 use Prim.Native.Nat.{◌≤◌}
 use native.Mathlib.Omega.{arith}
-use borrow.Author.Rules.{rules}
 use Rattle.theory.specs.Bounds.{max_groups}
 use Rattle.claimfile.proofs.DayLaws.{side-most}
 use Rattle.sides.specs.Side.{hangs}

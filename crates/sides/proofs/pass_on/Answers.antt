@@ -4,7 +4,6 @@ use Prim.Native.Nat.{ℕ, ◌<◌}
 use native.Mathlib.Omega.{arith}
 use lib.Dec.{leb}
 use lib.ListN.{length}
-use borrow.Author.Rules.{rules}
 use Rattle.claimfile.specs.Day.{count_of}
 use Rattle.claimfile.specs.declared.Group.{Group}
 use Rattle.claimfile.proofs.DayLaws.{side-most}

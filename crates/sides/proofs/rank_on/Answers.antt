@@ -1,6 +1,5 @@
 -- `rank_on` meets its contract: from counts that are 0, what `rise_on` finds is what the instance says.
 use native.Mathlib.Omega.{arith}
-use borrow.Author.Rules.{rules}
 use Rattle.sides.proofs.CountLaws.{zeros}
 use Rattle.sides.proofs.FoundLaws.{finds}
 use Rattle.sides.proofs.rank_on.Goals as goal

@@ -1,11 +1,8 @@
-use mathlib.Core.Path.{◌≡◌, refl, ◌∙◌, ap}
-use Prim.Native.Nat.{ℕ, ◌≤◌}
+use mathlib.Core.Path.{refl, ◌∙◌, ap}
+use Prim.Native.Nat.{ℕ}
 use native.Mathlib.Omega.{arith}
-use lib.ListN.{length}
-use borrow.Author.Rules.{rules}
 use Rattle.theory.specs.Matroid.{row}
-use Rattle.claimfile.specs.Day.{count_of}
-use Rattle.sides.proofs.CountLaws.{Rising, rising-start, rising-passes, rising_step, rising-end}
+use Rattle.sides.proofs.CountLaws.{rising-start, rising-passes, rising_step, rising-end}
 use Rattle.sides.proofs.rise.Goals as goal
 
 pub loop-g-init : goal.loop-g-init

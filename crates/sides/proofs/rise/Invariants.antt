@@ -1,13 +1,10 @@
 -- `rise` meets its contract. The loop keeps that the groups from g on have passed on what came to them (`Rising`), whatever rows
 -- the counts were at first, and that the cells are as many as before.
-use mathlib.Core.Path.{◌≡◌, refl, ◌∙◌, ap}
-use Prim.Native.Nat.{ℕ, ◌≤◌}
-use native.Mathlib.Omega.{arith}
+use mathlib.Core.Path.{◌≡◌}
+use Prim.Native.Nat.{◌≤◌}
 use lib.ListN.{length}
-use borrow.Author.Rules.{rules}
-use Rattle.theory.specs.Matroid.{row}
 use Rattle.claimfile.specs.Day.{count_of}
-use Rattle.sides.proofs.CountLaws.{Rising, rising-start, rising-passes, rising_step, rising-end}
+use Rattle.sides.proofs.CountLaws.{Rising}
 use Rattle.sides.proofs.rise.Given as goal
 
 abbrev pub invariant-loop-g : goal.invariant-loop-g

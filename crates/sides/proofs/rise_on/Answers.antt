@@ -1,5 +1,4 @@
 -- `rise_on` meets its contract: what `count_rows` leaves is where `rise` begins, for the selected rows.
-use borrow.Author.Rules.{rules}
 use Rattle.sides.proofs.CountLaws.{counted-begun, placed}
 use Rattle.sides.proofs.rise_on.Goals as goal
 

@@ -1,8 +1,7 @@
 -- `put_first` meets its contract: three fields and a line feed, which are four appends and so one.
 use native.Mathlib.Omega.{arith}
-use borrow.Author.Rules.{rules}
 use lib.ListN.{length-append}
-use Rattle.text.proofs.BufferLaws.{then, kept-length}
+use Rattle.text.proofs.BufferLaws.{then}
 use Rattle.slip.specs.Slip.{first_line}
 use Rattle.slip.proofs.put_first.Goals as goal
 

@@ -1,11 +1,6 @@
 -- `put_kept` meets its contract: a row that is not kept has no line, and one that is has the line of its record.
-use mathlib.Core.Path.{◌≡◌, sym, subst}
-use mathlib.Core.List.{List}
-use Prim.Native.Nat.{ℕ, ◌+◌, ◌^◌, ◌<◌}
 use native.Mathlib.Omega.{arith}
-use borrow.Author.Rules.{rules}
-use lib.ListN.{length}
-use Rattle.text.proofs.BufferLaws.{none, kept-length}
+use Rattle.text.proofs.BufferLaws.{none}
 use Rattle.slip.proofs.SlipLaws.{line-out, line-by}
 use Rattle.slip.proofs.put_kept.Goals as goal
 

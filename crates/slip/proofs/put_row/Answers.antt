@@ -1,12 +1,11 @@
 -- `put_row` meets its contract: three numbers, the kind and a line feed, each in its field, which are five appends and so one.
 use native.Mathlib.Omega.{arith}
-use borrow.Author.Rules.{rules}
 use mathlib.Core.Path.{◌≡◌}
 use Prim.Native.Nat.{◌+◌}
 use lib.Dec.{eqb}
 use lib.ListN.{length}
 use Rattle.text.specs.Text.{decimal, at_right}
-use Rattle.text.proofs.BufferLaws.{then, kept-length}
+use Rattle.text.proofs.BufferLaws.{then}
 use Rattle.slip.specs.Slip.{row_line}
 use Rattle.slip.proofs.SlipLaws.{kind_field, row_is, row-length}
 use Rattle.slip.proofs.put_row.Goals as goal

@@ -1,8 +1,7 @@
 use mathlib.Core.Path.{◌≡◌}
-use Prim.Native.Nat.{◌-◌, ◌≤◌}
+use Prim.Native.Nat.{◌-◌}
 use native.Mathlib.Omega.{arith}
-use Rattle.text.specs.Buffer.{Appended}
-use Rattle.text.proofs.BufferLaws.{none, then, kept-length}
+use Rattle.text.proofs.BufferLaws.{none, then}
 use Rattle.slip.specs.Slip.{kept_lines}
 use Rattle.slip.proofs.SlipLaws.{lines_more, lines-within}
 use Rattle.slip.proofs.put_rows.Goals as goal

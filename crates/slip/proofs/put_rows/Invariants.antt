@@ -1,11 +1,7 @@
 -- `put_rows` meets its contract. The loop's invariant: the lines of the kept ones of the first `c` rows are appended.
-use mathlib.Core.Path.{◌≡◌}
 use Prim.Native.Nat.{◌-◌, ◌≤◌}
-use native.Mathlib.Omega.{arith}
 use Rattle.text.specs.Buffer.{Appended}
-use Rattle.text.proofs.BufferLaws.{none, then, kept-length}
 use Rattle.slip.specs.Slip.{kept_lines}
-use Rattle.slip.proofs.SlipLaws.{lines_more, lines-within}
 use Rattle.slip.proofs.put_rows.Given as goal
 
 abbrev pub invariant-loop-c : goal.invariant-loop-c

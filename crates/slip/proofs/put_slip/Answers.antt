@@ -2,7 +2,7 @@
 -- rows, so the place after each of them is a 64-bit number.
 use mathlib.Core.Path.{ap₂}
 use native.Mathlib.Omega.{arith}
-use Rattle.text.proofs.BufferLaws.{then, kept-length}
+use Rattle.text.proofs.BufferLaws.{then}
 use Rattle.slip.specs.Slip.{first_line, kept_lines, slip}
 use Rattle.slip.proofs.SlipLaws.{first-length, lines-length}
 use Rattle.slip.proofs.put_slip.Goals as goal

@@ -2,9 +2,6 @@
 -- that of its lines.
 use mathlib.Core.Path.{sym, ◌∙◌}
 use native.Mathlib.Omega.{arith}
-use borrow.Author.Rules.{rules}
-use borrow.Author.Tests.{not-true, not-false}
-use Rattle.text.proofs.BufferLaws.{kept-length}
 use Rattle.slip.proofs.WriteLaws.{on-few, on-short, on-day, on_value, on-written}
 use Rattle.slip.proofs.slip_on.Goals as goal
 

@@ -1,6 +1,5 @@
 -- `write_slip` meets its contract: the file's first fault is told with nothing changed, and for an accepted file `slip_on` writes.
 use mathlib.Core.Path.{sym, ◌∙◌}
-use borrow.Author.Rules.{rules}
 use Rattle.reader.proofs.AcceptedLaws.{accepted-sound}
 use Rattle.slip.proofs.WriteLaws.{slips-refused, slips-accepted}
 use Rattle.slip.proofs.write_slip.Goals as goal

@@ -1,6 +1,5 @@
 -- Where the round turned paths, more rows are kept (`moved-round`). Else the toll falls, and what the round changed is not read by the
 -- state (`moved-stuck`).
-use mathlib.Core.Path.{◌∙◌, refl}
 use Rattle.solver.proofs.TollLaws.{running-begun, stuck-cutting, moved-stuck, moved-round}
 use Rattle.solver.proofs.advance.Goals as goal
 

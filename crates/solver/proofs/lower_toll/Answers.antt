@@ -1,9 +1,6 @@
-use Rattle.scratch.specs.Memory.{memory}
 use borrow.Author.Rules.{rules}
 use mathlib.Core.Path.{◌≡◌, refl, ◌∙◌}
 use native.Mathlib.Omega.{arith}
-use lib.ListN.{length}
-use Rattle.solver.specs.Toll.{left, Lowered}
 use Rattle.solver.proofs.TollLaws.{lowered_none, lowered-then, lowered-running}
 use Rattle.solver.proofs.lower_toll.Goals as goal
 

@@ -1,11 +1,8 @@
 -- The invariant: the toll at hand is reached by turns, each of which lowers it or keeps one row more. The loop ends at toll 0.
 use Rattle.scratch.specs.Memory.{memory}
-use borrow.Author.Rules.{rules}
-use mathlib.Core.Path.{◌≡◌, refl, ◌∙◌}
-use native.Mathlib.Omega.{arith}
+use mathlib.Core.Path.{◌≡◌}
 use lib.ListN.{length}
 use Rattle.solver.specs.Toll.{left, Lowered}
-use Rattle.solver.proofs.TollLaws.{lowered_none, lowered-then, lowered-running}
 use Rattle.solver.proofs.lower_toll.Given as goal
 
 abbrev pub invariant-loop-toll : goal.invariant-loop-toll

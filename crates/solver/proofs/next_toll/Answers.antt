@@ -1,8 +1,6 @@
 -- The step gives a state at the lower toll (`stepped-state`), the filling keeps it, and the lists are those of its prices.
-use mathlib.Core.Path.{◌∙◌}
 use Rattle.prices.proofs.ReadyLaws.{state-linkable}
 use Rattle.solver.proofs.TollLaws.{stepped-state, moved-step}
-use borrow.Author.Rules.{rules}
 use Rattle.solver.proofs.next_toll.Goals as goal
 
 pub refresh-requires : goal.refresh-requires

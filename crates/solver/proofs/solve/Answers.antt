@@ -3,7 +3,6 @@
 -- (`solved`).
 use mathlib.Core.Path.{◌∙◌}
 use Rattle.solver.proofs.SolveLaws.{started-running, lowered-paid, arranged-priced, solved}
-use borrow.Author.Rules.{rules}
 use Rattle.scratch.proofs.MemoryLaws.{memory-long}
 use Rattle.solver.proofs.solve.Goals as goal
 

@@ -1,6 +1,4 @@
 -- The first filling begins at no row, no price and the whole toll, which are a state (`state-start`), and its lists are built then.
-use mathlib.Core.Path.{◌∙◌}
-use borrow.Author.Rules.{rules}
 use Rattle.scratch.specs.Clear.{Cleared}
 use Rattle.scratch.specs.Memory.{memory}
 use Rattle.scratch.proofs.MemoryLaws.{memory-cleared}

@@ -1,7 +1,6 @@
 -- A limit that is too high is a fault; else the parent decides, by the side that the group is of.
 use native.Mathlib.Omega.{arith}
 use Rattle.solver_probe.proofs.TestLaws.{group-high, group-card, group-shop}
-use borrow.Author.Rules.{rules}
 use Rattle.solver_probe.proofs.group_formed.Goals as goal
 
 pub returns-then-number-gt-MAX_SPARE : goal.returns-then-number-gt-MAX_SPARE

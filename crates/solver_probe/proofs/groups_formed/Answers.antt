@@ -1,7 +1,6 @@
 use Prim.Native.Nat.{◌-◌}
 use native.Mathlib.Omega.{arith}
-use borrow.Author.Tests.{not-true, not-false}
-use Rattle.solver_probe.specs.Probe.{GroupFormed, GroupsFormed}
+use Rattle.solver_probe.specs.Probe.{GroupFormed}
 use Rattle.solver_probe.proofs.TestLaws.{tells-yes, every_more, one-fails}
 use Rattle.solver_probe.proofs.groups_formed.Goals as goal
 

@@ -1,8 +1,6 @@
 -- Groups and rows that are formed one by one, on sides of the given sizes, are a network.
 use native.Mathlib.Omega.{arith}
-use borrow.Author.Tests.{not-true, not-false}
 use Rattle.solver_probe.proofs.TestLaws.{sides-crossed, groups-fault, network-rows}
-use borrow.Author.Rules.{rules}
 use Rattle.solver_probe.proofs.is_network.Goals as goal
 
 pub returns-then-sh : goal.returns-then-sh

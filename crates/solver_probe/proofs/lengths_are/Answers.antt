@@ -2,7 +2,6 @@
 use native.Mathlib.Omega.{arith}
 use Rattle.scratch.specs.Map.{cells}
 use Rattle.solver_probe.proofs.TestLaws.{tells-no, tells-same, leb_tells}
-use borrow.Author.Rules.{rules}
 use Rattle.solver_probe.proofs.lengths_are.Goals as goal
 
 pub returns-then-g : goal.returns-then-g

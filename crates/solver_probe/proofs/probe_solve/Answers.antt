@@ -3,9 +3,7 @@
 use mathlib.Core.Path.{refl}
 use mathlib.Core.Logic.{inl}
 use native.Mathlib.Omega.{arith}
-use borrow.Author.Tests.{not-true, not-false}
 use Rattle.solver_probe.proofs.TableLaws.{lengths-room, lengths-numbered, written-tables, written-solution, turned-away}
-use borrow.Author.Rules.{rules}
 use Rattle.solver_probe.proofs.probe_solve.Goals as goal
 
 pub returns-then-marks-n : goal.returns-then-marks-n

@@ -1,8 +1,6 @@
 -- A weight over the toll is a fault, and so is a card node of no group; else the shop node decides.
 use native.Mathlib.Omega.{arith}
-use borrow.Author.Tests.{not-true, not-false}
 use Rattle.solver_probe.proofs.TestLaws.{row-heavy, row-off, row_on}
-use borrow.Author.Rules.{rules}
 use Rattle.solver_probe.proofs.row_formed.Goals as goal
 
 pub returns-then-sh-number : goal.returns-then-sh-number

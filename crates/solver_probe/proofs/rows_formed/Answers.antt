@@ -1,7 +1,6 @@
 use Prim.Native.Nat.{◌-◌}
 use native.Mathlib.Omega.{arith}
-use borrow.Author.Tests.{not-true, not-false}
-use Rattle.solver_probe.specs.Probe.{RowFormed, RowsFormed}
+use Rattle.solver_probe.specs.Probe.{RowFormed}
 use Rattle.solver_probe.proofs.TestLaws.{tells-yes, every_more, one-fails}
 use Rattle.solver_probe.proofs.rows_formed.Goals as goal
 

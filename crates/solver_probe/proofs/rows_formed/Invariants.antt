@@ -1,9 +1,6 @@
 -- The invariant: every row before the one at hand is formed.
 use Prim.Native.Nat.{◌-◌}
-use native.Mathlib.Omega.{arith}
-use borrow.Author.Tests.{not-true, not-false}
-use Rattle.solver_probe.specs.Probe.{RowFormed, RowsFormed}
-use Rattle.solver_probe.proofs.TestLaws.{tells-yes, every_more, one-fails}
+use Rattle.solver_probe.specs.Probe.{RowsFormed}
 use Rattle.solver_probe.proofs.rows_formed.Given as goal
 
 abbrev pub invariant-loop-c : goal.invariant-loop-c

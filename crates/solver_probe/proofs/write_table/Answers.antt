@@ -1,9 +1,8 @@
 use mathlib.Core.Path.{◌≡◌, sym, subst}
-use Prim.Native.Nat.{ℕ, ◌-◌, ◌≤◌, ◌<◌}
+use Prim.Native.Nat.{ℕ, ◌-◌, ◌<◌}
 use native.Mathlib.Omega.{arith}
 use Rattle.scratch.specs.Map.{part, bound}
 use Rattle.scratch.proofs.MapLaws.{room-keeps}
-use Rattle.solver_probe.specs.Probe.{Copied}
 use Rattle.solver_probe.proofs.TableLaws.{copied_none, copied_more}
 use Rattle.solver_probe.proofs.write_table.Goals as goal
 

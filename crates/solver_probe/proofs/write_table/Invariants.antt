@@ -1,11 +1,6 @@
 -- The invariant: the cells before the one at hand are copied, and no other table is changed.
-use mathlib.Core.Path.{◌≡◌, sym, subst}
-use Prim.Native.Nat.{ℕ, ◌-◌, ◌≤◌, ◌<◌}
-use native.Mathlib.Omega.{arith}
-use Rattle.scratch.specs.Map.{part, bound}
-use Rattle.scratch.proofs.MapLaws.{room-keeps}
+use Prim.Native.Nat.{◌-◌, ◌≤◌}
 use Rattle.solver_probe.specs.Probe.{Copied}
-use Rattle.solver_probe.proofs.TableLaws.{copied_none, copied_more}
 use Rattle.solver_probe.proofs.write_table.Given as goal
 
 abbrev pub invariant-loop-i : goal.invariant-loop-i

@@ -5,7 +5,6 @@ use Rattle.scratch.specs.Map.{parents, spares, card_nodes, shop_nodes, weights}
 use Rattle.scratch.proofs.MapLaws.{room-keeps}
 use Rattle.solver_probe.proofs.TableLaws.{copied-from, written, fitting-from}
 use Rattle.solver_probe.proofs.TableLaws.{parents-fit, limits-fit, cards-fit, shops-fit, weights-fit}
-use borrow.Author.Rules.{rules}
 use Rattle.solver_probe.proofs.write_tables.Goals as goal
 
 pub write_table-requires : goal.write_table-requires

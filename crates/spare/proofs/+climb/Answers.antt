@@ -1,7 +1,5 @@
-use Prim.Native.Nat.{ℕ, ◌<◌}
 use native.Mathlib.Omega.{arith}
 use lib.ListN.{length-set}
-use borrow.Author.Rules.{rules}
 use Rattle.spare.proofs.ChainLaws.{climbed-top, climbed-up}
 use Rattle.spare.proofs.+climb.Goals as goal
 

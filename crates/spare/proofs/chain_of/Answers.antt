@@ -1,7 +1,6 @@
 -- `chain_of` meets its contract: a row at the top counts in no group, and what `climb` lists from the group where any other row hangs are
 -- the groups that it counts in.
 use native.Mathlib.Omega.{arith}
-use borrow.Author.Rules.{rules}
 use Rattle.claimfile.proofs.DayLaws.{side-most}
 use Rattle.spare.proofs.ChainLaws.{climbed-chain, chained-none}
 use Rattle.spare.proofs.chain_of.Goals as goal

@@ -1,11 +1,10 @@
-use Prim.Native.Nat.{◌+◌, ◌-◌, ◌≤◌, ◌<◌, zero-le}
+use Prim.Native.Nat.{◌+◌, ◌-◌, ◌<◌, zero-le}
 use native.Mathlib.Omega.{arith}
 use borrow.Author.Tests.{not-true, not-false}
-use borrow.Author.Rules.{rules}
 use Rattle.claimfile.specs.Day.{count_of}
 use Rattle.claimfile.proofs.DayLaws.{side-most}
 use Rattle.sides.proofs.CountLaws.{zeros}
-use Rattle.spare.proofs.SpareLaws.{Sides, Groups, sides-start, groups-start, chain-inside, chain_fits, chain-step, chain-end}
+use Rattle.spare.proofs.SpareLaws.{Groups, sides-start, groups-start, chain-inside, chain_fits, chain-step, chain-end}
 use Rattle.spare.proofs.SpareLaws.{sides-end, unfit-side, full-group, spares-on}
 use Rattle.spare.proofs.spare_on.Goals as goal
 use Rattle.spare.proofs.spare_on.Goals.{After-fewer-spare, After-wide-g}

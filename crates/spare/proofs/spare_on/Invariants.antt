@@ -1,15 +1,8 @@
 -- `spare_on` meets its contract. With the sides before `side` done, the selection fits them, and the number is the greatest, up to 65535,
 -- for which each group that the row counts in there has places (`Sides`). The inner loop keeps the same of the groups in the first k
 -- cells of the row's chain (`Groups`). Where a side does not fit, or a group has no place left, the number is 0 whatever is left.
-use Prim.Native.Nat.{◌+◌, ◌-◌, ◌≤◌, ◌<◌, zero-le}
-use native.Mathlib.Omega.{arith}
-use borrow.Author.Tests.{not-true, not-false}
-use borrow.Author.Rules.{rules}
-use Rattle.claimfile.specs.Day.{count_of}
-use Rattle.claimfile.proofs.DayLaws.{side-most}
-use Rattle.sides.proofs.CountLaws.{zeros}
-use Rattle.spare.proofs.SpareLaws.{Sides, Groups, sides-start, groups-start, chain-inside, chain_fits, chain-step, chain-end}
-use Rattle.spare.proofs.SpareLaws.{sides-end, unfit-side, full-group, spares-on}
+use Prim.Native.Nat.{◌-◌, ◌≤◌}
+use Rattle.spare.proofs.SpareLaws.{Sides, Groups}
 use Rattle.spare.proofs.spare_on.Given as goal
 
 abbrev pub invariant-loop-k : goal.invariant-loop-k

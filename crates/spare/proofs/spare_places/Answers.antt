@@ -1,7 +1,6 @@
 -- `spare_places` meets its contract: a file that is entered is ready for the body, and each answer is that of the definition.
 use mathlib.Core.Path.{refl, sym, ◌∙◌}
 use native.Mathlib.Omega.{arith}
-use borrow.Author.Rules.{rules}
 use Rattle.claimfile.specs.File.{first_terms}
 use Rattle.limits.proofs.EntryLaws.{entered-ready}
 use Rattle.spare.proofs.SpareLaws.{spare-value, spare-selected, spare-row, spared-by}

@@ -1,15 +1,13 @@
-use mathlib.Core.Path.{◌≡◌, refl, ap, ◌∙◌}
-use Prim.Native.Nat.{ℕ, ◌-◌, ◌≤◌}
+use mathlib.Core.Path.{refl, ap, ◌∙◌}
+use Prim.Native.Nat.{ℕ, ◌-◌}
 use native.Mathlib.Omega.{arith}
-use lib.ListN.{length, length-set}
-use borrow.Author.Rules.{rules}
-use Rattle.theory.specs.Bounds.{max_groups}
+use lib.ListN.{length-set}
 use Rattle.claimfile.specs.Day.{count_of}
 use Rattle.claimfile.specs.declared.Group.{Group}
 use Rattle.claimfile.proofs.DayLaws.{side-most}
 use Rattle.sides.specs.Side.{parent_by}
 use Rattle.sides.proofs.ParentLaws.{parent_above}
-use Rattle.spare.proofs.ChainLaws.{UpsTo, ups-step}
+use Rattle.spare.proofs.ChainLaws.{ups-step}
 use Rattle.spare.proofs.ups_of.Goals as goal
 
 pub loop-g-init : goal.loop-g-init

@@ -1,6 +1,4 @@
-use Prim.Native.Nat.{ℕ, ◌<◌}
 use native.Mathlib.Omega.{arith}
-use borrow.Author.Rules.{rules}
 use Rattle.tally.proofs.WalkLaws.{counted_none, counted-top, counted-up}
 use Rattle.tally.proofs.+count_from.Goals as goal
 

@@ -1,8 +1,4 @@
 -- `count_from` meets its contract: with u as the measure, the count of u changes by one step, and those above it are counted by the call.
-use Prim.Native.Nat.{ℕ, ◌<◌}
-use native.Mathlib.Omega.{arith}
-use borrow.Author.Rules.{rules}
-use Rattle.tally.proofs.WalkLaws.{counted_none, counted-top, counted-up}
 use Rattle.tally.proofs.+count_from.Given as goal
 
 abbrev pub decreases-count_from : goal.decreases-count_from

@@ -1,6 +1,4 @@
-use Prim.Native.Nat.{ℕ, ◌<◌}
 use native.Mathlib.Omega.{arith}
-use borrow.Author.Rules.{rules}
 use Rattle.tally.proofs.WalkLaws.{place_none, place-full, place-top, place_up}
 use Rattle.tally.proofs.+has_place.Goals as goal
 

@@ -1,9 +1,5 @@
 -- `has_place` meets its contract: with u as the measure, a full node ends the walk, so does a node with no smaller one above it, and else
 -- the answer is that of the call for the node above.
-use Prim.Native.Nat.{ℕ, ◌<◌}
-use native.Mathlib.Omega.{arith}
-use borrow.Author.Rules.{rules}
-use Rattle.tally.proofs.WalkLaws.{place_none, place-full, place-top, place_up}
 use Rattle.tally.proofs.+has_place.Given as goal
 
 abbrev pub decreases-has_place : goal.decreases-has_place

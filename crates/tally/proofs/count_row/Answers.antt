@@ -1,6 +1,5 @@
 -- `count_row` meets its contract. The two walks are those of `CountedRow`.
 use native.Mathlib.Omega.{arith}
-use borrow.Author.Rules.{rules}
 use Rattle.tally.proofs.WalkLaws.{counted-row}
 use Rattle.tally.proofs.count_row.Goals as goal
 

@@ -1,7 +1,6 @@
 -- `node_of` meets its contract. Each way out is a case of the definition.
 use native.Mathlib.Omega.{arith}
 use borrow.Author.Tests.{lt-ltb, le-ltb, le-leb, lt-leb, eq-eqb, ne_eqb}
-use borrow.Author.Rules.{rules}
 use Rattle.tally.proofs.node_of.Goals as goal
 
 pub returns-then-g-cards : goal.returns-then-g-cards

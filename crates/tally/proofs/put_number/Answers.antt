@@ -1,25 +1,13 @@
 -- `put_number` meets its contract. Each way out is a case of `PutTold`.
-use mathlib.Core.Path.{◌≡◌, refl, subst}
-use mathlib.Core.Bool.{Bool, true, false}
 use mathlib.Core.Logic.{inl, inr}
 use native.Mathlib.Omega.{arith}
-use borrow.Author.Rules.{rules}
-use Rattle.tally.specs.Walks.{Lies, HasPlaces}
-use Rattle.tally.proofs.CallLaws.{refused-is, granted-is}
+use Rattle.tally.specs.Walks.{Lies}
 use Rattle.tally.proofs.put_number.Goals as goal
-use Rattle.tally.proofs.put_number.Goals.{After-has_places, Else-lacks_row}
+use Rattle.tally.proofs.put_number.Goals.{Else-lacks_row}
 
 -- the row is there
 there : (c : Else-lacks_row) → Lies c.args.rows c.args.c
 there c = c.lacks_row.ensures.lies c.if-lacks_row.false
-
--- what is answered of the row's places, as the test of the answer has it
-asked :
-    (c : After-has_places) (r : Bool) → c.has_places.result ≡ r →
-    (let a = c.args in HasPlaces a.tables.now a.counts.now a.c r)
-asked c r is =
-    let a = c.args in
-    subst (HasPlaces a.tables.now a.counts.now a.c) is c.has_places.ensures
 
 pub returns-then-lacks_row : goal.returns-then-lacks_row
 returns-then-lacks_row c = inl (omega arith, c.lacks_row.ensures.lacks c.if-lacks_row.true)

@@ -1,6 +1,5 @@
 -- `step` meets its contract. The bound is reached, or the sum and the difference are whole.
 use native.Mathlib.Omega.{arith}
-use borrow.Author.Rules.{rules}
 use Rattle.tally.proofs.step.Goals as goal
 
 pub returns-then-count-eq65535 : goal.returns-then-count-eq65535

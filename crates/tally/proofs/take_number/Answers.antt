@@ -2,7 +2,6 @@
 use mathlib.Core.Path.{refl}
 use mathlib.Core.Logic.{inl, inr}
 use native.Mathlib.Omega.{arith}
-use borrow.Author.Rules.{rules}
 use Rattle.tally.specs.Walks.{Lies}
 use Rattle.tally.proofs.take_number.Goals as goal
 use Rattle.tally.proofs.take_number.Goals.{Else-lacks_row}

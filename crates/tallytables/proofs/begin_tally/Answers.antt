@@ -1,7 +1,6 @@
 -- `begin_tally` meets its contract. Each reading of the file, and the day, is a case of `Started`.
 use mathlib.Core.Path.{sym, ◌∙◌}
 use native.Mathlib.Omega.{arith}
-use borrow.Author.Rules.{rules}
 use Rattle.reader.proofs.AcceptedLaws.{accepted-sound}
 use Rattle.tallytables.proofs.BeginLaws.{started-refused, started-dayless, started-filled}
 use Rattle.tallytables.proofs.begin_tally.Goals as goal

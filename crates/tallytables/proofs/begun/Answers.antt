@@ -1,6 +1,5 @@
 -- `begun` meets its contract. The tables are filled, and no row is in.
 use mathlib.Core.Path.{refl}
-use borrow.Author.Rules.{rules}
 use Rattle.tallytables.proofs.BeginLaws.{filled_none}
 use Rattle.tallytables.proofs.begun.Goals as goal
 

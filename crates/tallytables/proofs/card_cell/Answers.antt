@@ -1,6 +1,5 @@
 -- `card_cell` meets its contract. The claim says where the row hangs.
 use native.Mathlib.Omega.{arith}
-use borrow.Author.Rules.{rules}
 use Rattle.tallytables.proofs.FillLaws.{card-none, card-is}
 use Rattle.tallytables.proofs.card_cell.Goals as goal
 

@@ -2,7 +2,6 @@
 use mathlib.Core.Path.{sym, ◌∙◌}
 use Prim.Native.Nat.{◌-◌}
 use native.Mathlib.Omega.{arith}
-use borrow.Author.Rules.{rules}
 use Rattle.claimfile.specs.Day.{instance_of}
 use Rattle.tally.proofs.CellLaws.{cell-parent, cell-limit, cell-card, cell-shop}
 use Rattle.tallytables.proofs.FillLaws.{in_table}

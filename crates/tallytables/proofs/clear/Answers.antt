@@ -1,9 +1,7 @@
-use mathlib.Core.Path.{◌≡◌, refl, ◌∙◌}
-use Prim.Native.Nat.{◌-◌, ◌≤◌}
+use mathlib.Core.Path.{refl, ◌∙◌}
+use Prim.Native.Nat.{◌-◌}
 use native.Mathlib.Omega.{arith}
-use lib.ListN.{length, length-set}
-use borrow.Author.Rules.{rules}
-use Rattle.tally.specs.Cells.{cells, Table}
+use lib.ListN.{length-set}
 use Rattle.tally.specs.Tally.{none}
 use Rattle.tally.proofs.CellLaws.{table_none, table_more}
 use Rattle.tallytables.proofs.clear.Goals as goal

@@ -1,12 +1,9 @@
 -- `clear` meets its contract. The loop keeps that the cells passed are 0.
-use mathlib.Core.Path.{◌≡◌, refl, ◌∙◌}
+use mathlib.Core.Path.{◌≡◌}
 use Prim.Native.Nat.{◌-◌, ◌≤◌}
-use native.Mathlib.Omega.{arith}
-use lib.ListN.{length, length-set}
-use borrow.Author.Rules.{rules}
+use lib.ListN.{length}
 use Rattle.tally.specs.Cells.{cells, Table}
 use Rattle.tally.specs.Tally.{none}
-use Rattle.tally.proofs.CellLaws.{table_none, table_more}
 use Rattle.tallytables.proofs.clear.Given as goal
 
 abbrev pub invariant-loop-i : goal.invariant-loop-i

@@ -1,10 +1,9 @@
-use mathlib.Core.Path.{◌≡◌, ◌∙◌}
-use Prim.Native.Nat.{◌-◌, ◌≤◌}
+use mathlib.Core.Path.{◌∙◌}
+use Prim.Native.Nat.{◌-◌}
 use native.Mathlib.Omega.{arith}
-use lib.ListN.{length, length-set}
-use borrow.Author.Rules.{rules}
+use lib.ListN.{length-set}
 use Rattle.claimfile.specs.Day.{instance_of}
-use Rattle.tally.specs.Cells.{cells, Table, cell_of}
+use Rattle.tally.specs.Cells.{cell_of}
 use Rattle.tally.proofs.CellLaws.{table_none, table_more}
 use Rattle.tallytables.proofs.fill.Goals as goal
 

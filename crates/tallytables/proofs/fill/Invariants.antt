@@ -1,12 +1,9 @@
 -- `fill` meets its contract. The loop keeps that the cells passed are those of the tables.
-use mathlib.Core.Path.{◌≡◌, ◌∙◌}
+use mathlib.Core.Path.{◌≡◌}
 use Prim.Native.Nat.{◌-◌, ◌≤◌}
-use native.Mathlib.Omega.{arith}
-use lib.ListN.{length, length-set}
-use borrow.Author.Rules.{rules}
+use lib.ListN.{length}
 use Rattle.claimfile.specs.Day.{instance_of}
 use Rattle.tally.specs.Cells.{cells, Table, cell_of}
-use Rattle.tally.proofs.CellLaws.{table_none, table_more}
 use Rattle.tallytables.proofs.fill.Given as goal
 
 abbrev pub invariant-loop-i : goal.invariant-loop-i

@@ -2,7 +2,6 @@
 -- whose cell stands before.
 use mathlib.Core.Path.{◌∙◌}
 use native.Mathlib.Omega.{arith}
-use borrow.Author.Rules.{rules}
 use Rattle.tallytables.proofs.FillLaws.{limit-none, limit-alone, limit-lowered}
 use Rattle.tallytables.proofs.limit_cell.Goals as goal
 

@@ -1,6 +1,5 @@
 -- `parent_cell` meets its contract. A group's parent is what its record says.
 use native.Mathlib.Omega.{arith}
-use borrow.Author.Rules.{rules}
 use Rattle.tallytables.proofs.FillLaws.{parent-none, parent_is}
 use Rattle.tallytables.proofs.parent_cell.Goals as goal
 

@@ -1,5 +1,4 @@
 -- `refused` meets its contract. Every cell is cleared.
-use borrow.Author.Rules.{rules}
 use Rattle.tallytables.proofs.BeginLaws.{empty-none}
 use Rattle.tallytables.proofs.refused.Goals as goal
 

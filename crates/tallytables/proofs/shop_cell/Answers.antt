@@ -1,6 +1,5 @@
 -- `shop_cell` meets its contract. The claim says where the row hangs.
 use native.Mathlib.Omega.{arith}
-use borrow.Author.Rules.{rules}
 use Rattle.tallytables.proofs.FillLaws.{shop-none, shop-is}
 use Rattle.tallytables.proofs.shop_cell.Goals as goal
 

@@ -5,12 +5,11 @@ use mathlib.Core.Path.{◌≡◌, ap, ◌∙◌}
 use mathlib.Core.List.{[], ◌∷◌}
 use Prim.Native.Nat.{ℕ, ◌+◌, ◌-◌, ◌/◌, ◌%◌, ◌≤◌, ◌<◌}
 use native.Mathlib.Omega.{arith}
-use borrow.Author.Rules.{rules}
 use lib.ListN.{length, length-append}
 use Rattle.text.specs.Text as text
 use Rattle.text.specs.Text.{decimal, at_right}
 use Rattle.text.proofs.TextLaws.{right-small, right-more}
-use Rattle.text.proofs.BufferLaws.{then, kept-length}
+use Rattle.text.proofs.BufferLaws.{then}
 use Rattle.text.proofs.+put_right.Goals as goal
 
 -- how long the parts of a field are: w bytes are blank, or have the tenth of n

@@ -1,6 +1,6 @@
 -- `put` meets its contract: within the buffer one cell is stored, and past its end storing would change nothing.
 use native.Mathlib.Omega.{arith}
-use Rattle.text.proofs.BufferLaws.{one, one-past, kept-length}
+use Rattle.text.proofs.BufferLaws.{one, one-past}
 use Rattle.text.proofs.put.Goals as goal
 
 pub overflow_add-result : goal.overflow_add-result

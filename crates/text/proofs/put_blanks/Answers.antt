@@ -1,10 +1,9 @@
 use mathlib.Core.Path.{◌≡◌}
-use Prim.Native.Nat.{◌-◌, ◌≤◌}
+use Prim.Native.Nat.{◌-◌}
 use native.Mathlib.Omega.{arith}
 use Rattle.text.specs.Text.{blanks}
-use Rattle.text.specs.Buffer.{Appended}
 use Rattle.text.proofs.TextLaws.{blanks-more, blanks-length}
-use Rattle.text.proofs.BufferLaws.{none, then, kept-length}
+use Rattle.text.proofs.BufferLaws.{none, then}
 use Rattle.text.proofs.put_blanks.Goals as goal
 
 pub loop-i-init : goal.loop-i-init

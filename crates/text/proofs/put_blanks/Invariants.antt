@@ -1,11 +1,7 @@
 -- `put_blanks` meets its contract. The loop's invariant: `i` blanks are appended.
-use mathlib.Core.Path.{◌≡◌}
 use Prim.Native.Nat.{◌-◌, ◌≤◌}
-use native.Mathlib.Omega.{arith}
 use Rattle.text.specs.Text.{blanks}
 use Rattle.text.specs.Buffer.{Appended}
-use Rattle.text.proofs.TextLaws.{blanks-more, blanks-length}
-use Rattle.text.proofs.BufferLaws.{none, then, kept-length}
 use Rattle.text.proofs.put_blanks.Given as goal
 
 abbrev pub invariant-loop-i : goal.invariant-loop-i

@@ -1,5 +1,4 @@
 -- `put_decimal` meets its contract: the digits stand at the right of a field of no width.
-use borrow.Author.Rules.{rules}
 use Rattle.text.specs.Text.{decimal}
 use Rattle.text.proofs.TextLaws.{right-none}
 use Rattle.text.proofs.put_decimal.Goals as goal

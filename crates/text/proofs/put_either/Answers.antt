@@ -1,5 +1,4 @@
 -- `put_either` meets its contract: on each way `when` is known, so that `pick` is the word which is put.
-use Rattle.text.proofs.BufferLaws.{kept-length}
 use Rattle.text.proofs.put_either.Goals as goal
 
 pub put_word-requires : goal.put_word-requires

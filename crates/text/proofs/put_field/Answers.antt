@@ -1,7 +1,7 @@
 -- `put_field` meets its contract: the word and then the digits, which are two appends and so one.
 use native.Mathlib.Omega.{arith}
 use lib.ListN.{length-append}
-use Rattle.text.proofs.BufferLaws.{then, kept-length}
+use Rattle.text.proofs.BufferLaws.{then}
 use Rattle.text.proofs.put_field.Goals as goal
 
 pub put_word-next-requires : goal.put_word-next-requires

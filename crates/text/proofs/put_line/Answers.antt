@@ -1,7 +1,7 @@
 -- `put_line` meets its contract: the field and then the line feed, which are two appends and so one.
 use native.Mathlib.Omega.{arith}
 use lib.ListN.{length-append}
-use Rattle.text.proofs.BufferLaws.{then, kept-length}
+use Rattle.text.proofs.BufferLaws.{then}
 use Rattle.text.proofs.put_line.Goals as goal
 
 pub put_field-next-requires : goal.put_field-next-requires

@@ -1,10 +1,8 @@
-use Prim.Native.Nat.{◌-◌, ◌≤◌}
+use Prim.Native.Nat.{◌-◌}
 use native.Mathlib.Numerals.{add-one}
 use native.Mathlib.Omega.{arith}
-use lib.ListN.{length, take}
 use lib.Seq.{length-take-le, take_all, take-suc}
-use Rattle.text.specs.Buffer.{Appended}
-use Rattle.text.proofs.BufferLaws.{none, then, kept-length}
+use Rattle.text.proofs.BufferLaws.{none, then}
 use Rattle.text.proofs.put_word.Goals as goal
 
 pub loop-i-init : goal.loop-i-init

@@ -1,12 +1,8 @@
 -- `put_word` meets its contract. The loop's invariant: the word's first `i` bytes are appended. The next byte makes them one more,
 -- and at the end they are all.
 use Prim.Native.Nat.{◌-◌, ◌≤◌}
-use native.Mathlib.Numerals.{add-one}
-use native.Mathlib.Omega.{arith}
 use lib.ListN.{length, take}
-use lib.Seq.{length-take-le, take_all, take-suc}
 use Rattle.text.specs.Buffer.{Appended}
-use Rattle.text.proofs.BufferLaws.{none, then, kept-length}
 use Rattle.text.proofs.put_word.Given as goal
 
 abbrev pub invariant-loop-i : goal.invariant-loop-i

@@ -1,14 +1,9 @@
 -- The loop's invariant, `Rewound`: the cells of the nodes below v are their first items, and only the queue changed.
 use Rattle.scratch.specs.Memory.{memory}
-use mathlib.Core.Path.{◌≡◌, refl}
+use mathlib.Core.Path.{◌≡◌}
 use lib.ListN.{length}
-use native.Mathlib.Omega.{arith}
 use Prim.Native.Nat.{◌+◌, ◌-◌, ◌≤◌}
-use native.Mathlib.Nat.{le_antisymm}
-use borrow.Author.Rules.{rules}
 use Rattle.walks.specs.Walk.{Rewound}
-use Rattle.scratch.proofs.MapLaws.{room-keeps}
-use Rattle.walks.proofs.RoundLaws.{rewound-none, rewound-more, first-half}
 use Rattle.walks.proofs.rewind.Given as goal
 
 abbrev pub invariant-loop-v : goal.invariant-loop-v

@@ -1,7 +1,5 @@
-use mathlib.Core.Path.{◌≡◌, refl, ◌∙◌}
-use lib.ListN.{length}
-use Rattle.scratch.specs.Memory.{memory}
-use Rattle.walks.proofs.RoundLaws.{Going, to_go, going-first, going_next, going_less, going_end}
+use mathlib.Core.Path.{refl, ◌∙◌}
+use Rattle.walks.proofs.RoundLaws.{going-first, going_next, going_less, going_end}
 use Rattle.walks.proofs.turn_all.Goals as goal
 
 pub loop-more-init : goal.loop-more-init

@@ -1,8 +1,8 @@
 -- The invariant, `Going`: paths were turned, and while `more` holds the next walk may begin. Each path keeps one row more.
-use mathlib.Core.Path.{◌≡◌, refl, ◌∙◌}
+use mathlib.Core.Path.{◌≡◌}
 use lib.ListN.{length}
 use Rattle.scratch.specs.Memory.{memory}
-use Rattle.walks.proofs.RoundLaws.{Going, to_go, going-first, going_next, going_less, going_end}
+use Rattle.walks.proofs.RoundLaws.{Going, to_go}
 use Rattle.walks.proofs.turn_all.Given as goal
 
 abbrev pub invariant-loop-more : goal.invariant-loop-more

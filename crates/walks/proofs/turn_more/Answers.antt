@@ -1,6 +1,5 @@
 -- In a round that turned no path its one walk began at the first items, so that no path is left (`round-none`); else more rows are kept,
 -- and every node is made fresh for the next round (`round-path`).
-use mathlib.Core.Path.{◌∙◌}
 use Rattle.walks.proofs.RoundLaws.{rewound-begun, rewound-ahead, round-path, round-none}
 use Rattle.walks.proofs.turn_more.Goals as goal
 

@@ -1,6 +1,5 @@
 -- Where the walk came to the sink the path is turned and every node is fresh again (`crossed-turn`); else only label and queue changed
 -- (`halted-turn`).
-use mathlib.Core.Path.{refl, ◌∙◌}
 use native.Mathlib.Omega.{arith}
 use Rattle.walks.proofs.RoundLaws.{flip-room, crossed-turn, halted-turn}
 use Rattle.walks.proofs.turn_next.Goals as goal

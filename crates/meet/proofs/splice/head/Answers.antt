@@ -6,7 +6,6 @@ use Rattle.scratch.specs.Map.{spare_of, kept_of}
 use Rattle.scratch.specs.View.{residual_of}
 use Rattle.theory.specs.Residual.{Residual}
 use Rattle.meet.proofs.SpliceLaws.{head-down, head_in, head-out, head-up}
-use borrow.Author.Rules.{rules}
 use Rattle.meet.proofs.splice.head.Goals as goal
 use Rattle.meet.proofs.splice.head.Goals.{Start}
 

@@ -1,15 +1,10 @@
-use mathlib.Core.Path.{◌≡◌, refl, ap, ◌∙◌}
+use mathlib.Core.Path.{refl, ap, ◌∙◌}
 use Prim.Native.Nat.{◌+◌, ◌-◌}
 use native.Mathlib.Omega.{arith}
-use lib.ListN.{length}
 use borrow.Author.Rules.{rules}
-use Rattle.scratch.specs.Memory.{memory}
 use Rattle.scratch.specs.Map.{arc_in, span}
-use Rattle.look.specs.Reach.{reached}
-use Rattle.meet.specs.Meet.{seen_by}
-use Rattle.meet.proofs.SpliceLaws.{Splicing, splicing-first, splicing-ready, splicing-node, splicing-seen, splicing-next}
+use Rattle.meet.proofs.SpliceLaws.{splicing-first, splicing-ready, splicing-node, splicing-seen, splicing-next}
 use Rattle.meet.proofs.SpliceLaws.{splicing-less, splicing-end}
-use mathlib.Core.Bool.{true}
 use Rattle.meet.proofs.splice.splice.Goals as goal
 
 pub overflow_sub-e : goal.overflow_sub-e

@@ -1,16 +1,12 @@
 -- The invariant, `Splicing`: the way from the start stands, and arc e leads on from it to a node that was reached from the target, or the
 -- target is on it. Each turn makes one node of that end a node of the way.
-use mathlib.Core.Path.{◌≡◌, refl, ap, ◌∙◌}
+use mathlib.Core.Path.{◌≡◌}
 use Prim.Native.Nat.{◌+◌, ◌-◌}
-use native.Mathlib.Omega.{arith}
 use lib.ListN.{length}
-use borrow.Author.Rules.{rules}
 use Rattle.scratch.specs.Memory.{memory}
-use Rattle.scratch.specs.Map.{arc_in, span}
 use Rattle.look.specs.Reach.{reached}
 use Rattle.meet.specs.Meet.{seen_by}
-use Rattle.meet.proofs.SpliceLaws.{Splicing, splicing-first, splicing-ready, splicing-node, splicing-seen, splicing-next}
-use Rattle.meet.proofs.SpliceLaws.{splicing-less, splicing-end}
+use Rattle.meet.proofs.SpliceLaws.{Splicing}
 use mathlib.Core.Bool.{true}
 use Rattle.meet.proofs.splice.splice.Given as goal
 

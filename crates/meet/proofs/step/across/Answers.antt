@@ -3,7 +3,6 @@ use mathlib.Core.Path.{◌∙◌}
 use Rattle.scratch.specs.Memory.{memory}
 use Rattle.scratch.specs.Map.{card_of, shop_of}
 use Rattle.look.proofs.StepLaws.{pick_yes, pick_no}
-use borrow.Author.Rules.{rules}
 use Rattle.meet.proofs.step.across.Goals as goal
 
 pub returns-then-shops : goal.returns-then-shops

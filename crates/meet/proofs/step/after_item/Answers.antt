@@ -6,7 +6,6 @@ use Rattle.scratch.specs.Memory.{memory}
 use Rattle.scratch.specs.View.{residual_of}
 use Rattle.residual.proofs.LinkLaws.{after-child, after-card, after-shop}
 use Rattle.meet.proofs.StepLaws.{side-shop, side-card}
-use borrow.Author.Rules.{rules}
 use Rattle.meet.proofs.step.after_item.Goals as goal
 use Rattle.meet.proofs.step.after_item.Goals.{Start}
 

@@ -1,6 +1,5 @@
 -- A group has one arc to its parent (`rising-told`), and a root none (`rising_none`).
 use Rattle.meet.proofs.ScanLaws.{scanned-none, open-look, rising-told, rising_none}
-use borrow.Author.Rules.{rules}
 use Rattle.meet.proofs.step.look_above.Goals as goal
 
 pub look_up-requires : goal.look_up-requires

@@ -3,7 +3,6 @@
 use native.Mathlib.Omega.{arith}
 use Rattle.look.proofs.LookLaws.{down-leads}
 use Rattle.meet.proofs.StepLaws.{fall-small, looked-by, looked-none}
-use borrow.Author.Rules.{rules}
 use Rattle.meet.proofs.step.look_child.Goals as goal
 
 pub take-requires : goal.take-requires

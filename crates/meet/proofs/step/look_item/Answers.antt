@@ -10,7 +10,6 @@ use Rattle.scratch.specs.View.{net_of}
 use Rattle.look.proofs.ReachLaws.{arc-row, arc-child}
 use Rattle.look.proofs.StepLaws.{item-down, ends-below}
 use Rattle.meet.proofs.StepLaws.{looked-tried, looked-none, looked-as, item-leads, row_ends}
-use borrow.Author.Rules.{rules}
 use Rattle.meet.proofs.step.look_item.Goals as goal
 use Rattle.meet.proofs.step.look_item.Goals.{Start}
 

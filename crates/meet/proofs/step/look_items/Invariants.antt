@@ -1,13 +1,10 @@
 -- The invariant: the items before the one at hand have been looked along (`Along`), and none of them leads to the other end. The items
 -- stand in the order of their numbers, so that the number at hand rises with each turn.
-use mathlib.Core.Path.{◌≡◌, refl}
+use mathlib.Core.Path.{◌≡◌}
 use Prim.Native.Nat.{◌-◌}
-use native.Mathlib.Omega.{arith}
 use lib.ListN.{length}
-use borrow.Author.Rules.{rules}
 use Rattle.scratch.specs.Memory.{memory}
-use Rattle.meet.proofs.ScanLaws.{Along, along-first, along_look, along-open, along-side, along-end}
-use Rattle.meet.proofs.ScanLaws.{along-hit, along-item, along-raw, along-next-side, along-next}
+use Rattle.meet.proofs.ScanLaws.{Along}
 use Rattle.meet.proofs.step.look_items.Given as goal
 
 abbrev pub invariant-loop-j : goal.invariant-loop-j

@@ -1,7 +1,6 @@
 -- The arc between a group and its parent: up along the arcs, down against them. Whether it is a step was asked first.
 use Rattle.look.proofs.StepLaws.{up-node}
 use Rattle.meet.proofs.StepLaws.{rise-small, looked-by, looked-none}
-use borrow.Author.Rules.{rules}
 use Rattle.meet.proofs.step.look_up.Goals as goal
 
 pub take-requires : goal.take-requires

@@ -2,7 +2,6 @@
 -- end.
 use Rattle.meet.proofs.StepLaws.{side-told}
 use Rattle.meet.proofs.ScanLaws.{scanned-hit, scanned-on, scanned-all}
-use borrow.Author.Rules.{rules}
 use Rattle.meet.proofs.step.scan_in.Goals as goal
 
 pub returns-then-hit-gt0 : goal.returns-then-hit-gt0
@@ -11,7 +10,7 @@ returns-then-hit-gt0 c = scanned-hit c.requires c.look_above-above.ensures c.if-
 pub look_items-requires : goal.look_items-requires
 look_items-requires c =
     record {
-      fact = scanned-on c.requires c.look_above-above.ensures c.if-hit-gt0.false;
+      opened = scanned-on c.requires c.look_above-above.ensures c.if-hit-gt0.false;
       side_of = side-told _ c.args.u
           c.requires.node;
     }

@@ -2,7 +2,6 @@
 use native.Mathlib.Omega.{arith}
 use Rattle.scratch.proofs.MapLaws.{room-keeps}
 use Rattle.meet.proofs.StepLaws.{base-most, spot-low, tried-reached, tried-joins, tried-past}
-use borrow.Author.Rules.{rules}
 use Rattle.meet.proofs.step.take.Goals as goal
 
 pub set_label-requires : goal.set_label-requires

@@ -1,12 +1,9 @@
 use Rattle.scratch.specs.Memory.{memory}
 use borrow.Author.Rules.{rules}
-use mathlib.Core.Path.{◌≡◌, refl}
-use lib.ListN.{length}
+use mathlib.Core.Path.{refl}
 use native.Mathlib.Omega.{arith}
-use Rattle.theory.specs.Chain.{depth}
-use Rattle.scratch.specs.Map.{spares, parent_of}
+use Rattle.scratch.specs.Map.{spares}
 use Rattle.scratch.proofs.MapLaws.{half-small, room-keeps}
-use Rattle.moves.specs.Fill.{Climbed}
 use Rattle.moves.proofs.PlaceLaws.{depth_falls, climbed-none, climbed-more, climbed-falls}
 use Rattle.moves.proofs.fill.climb.Goals as goal
 

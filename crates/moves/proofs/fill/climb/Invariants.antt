@@ -1,14 +1,10 @@
 -- The walk has come to v, and every group from u up and below v has one place less (`Climbed`).
 use Rattle.scratch.specs.Memory.{memory}
-use borrow.Author.Rules.{rules}
-use mathlib.Core.Path.{◌≡◌, refl}
+use mathlib.Core.Path.{◌≡◌}
 use lib.ListN.{length}
-use native.Mathlib.Omega.{arith}
 use Rattle.theory.specs.Chain.{depth}
-use Rattle.scratch.specs.Map.{spares, parent_of}
-use Rattle.scratch.proofs.MapLaws.{half-small, room-keeps}
+use Rattle.scratch.specs.Map.{parent_of}
 use Rattle.moves.specs.Fill.{Climbed}
-use Rattle.moves.proofs.PlaceLaws.{depth_falls, climbed-none, climbed-more, climbed-falls}
 use Rattle.moves.proofs.fill.climb.Given as goal
 
 abbrev pub invariant-loop-v : goal.invariant-loop-v

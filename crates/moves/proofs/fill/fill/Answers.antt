@@ -1,6 +1,5 @@
 -- Opening all nodes changes marks alone, so the state stays (`added-same`); what `fill_rows` then adds is what is added in all
 -- (`added_then`).
-use mathlib.Core.Path.{◌∙◌}
 use Rattle.moves.proofs.PlaceLaws.{shifts-marks, added-same, added_then}
 use Rattle.moves.proofs.fill.fill.Goals as goal
 

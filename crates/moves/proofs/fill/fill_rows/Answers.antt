@@ -1,10 +1,7 @@
-use Rattle.scratch.specs.Memory.{memory}
 use borrow.Author.Rules.{rules}
-use mathlib.Core.Path.{◌≡◌, refl, ◌∙◌}
+use mathlib.Core.Path.{refl, ◌∙◌}
 use Prim.Native.Nat.{◌-◌}
 use native.Mathlib.Omega.{arith}
-use lib.ListN.{length}
-use Rattle.moves.specs.Fill.{Added}
 use Rattle.moves.proofs.PlaceLaws.{added_none, added_then}
 use Rattle.moves.proofs.fill.fill_rows.Goals as goal
 

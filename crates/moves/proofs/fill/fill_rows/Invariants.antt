@@ -1,13 +1,10 @@
 -- The loop's invariant: the rows that were tried so far are added where they could be, and the result is a state (`Added`). One row more is
 -- one filling after another (`added_then`).
 use Rattle.scratch.specs.Memory.{memory}
-use borrow.Author.Rules.{rules}
-use mathlib.Core.Path.{◌≡◌, refl, ◌∙◌}
+use mathlib.Core.Path.{◌≡◌}
 use Prim.Native.Nat.{◌-◌}
-use native.Mathlib.Omega.{arith}
 use lib.ListN.{length}
 use Rattle.moves.specs.Fill.{Added}
-use Rattle.moves.proofs.PlaceLaws.{added_none, added_then}
 use Rattle.moves.proofs.fill.fill_rows.Given as goal
 
 abbrev pub invariant-loop-c : goal.invariant-loop-c

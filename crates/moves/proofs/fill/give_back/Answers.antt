@@ -2,13 +2,10 @@ use Prim.Native.Nat.{ℕ}
 use mathlib.Core.List.{List}
 use Rattle.scratch.specs.Memory.{memory}
 use borrow.Author.Rules.{rules}
-use lib.ListN.{length}
-use mathlib.Core.Path.{sym, ◌∙◌, ◌≡◌, refl}
+use mathlib.Core.Path.{sym, ◌∙◌, refl}
 use native.Mathlib.Omega.{arith}
-use Rattle.theory.specs.Chain.{depth}
 use Rattle.scratch.specs.Map.{parent_of}
 use Rattle.scratch.proofs.MapLaws.{room-keeps}
-use Rattle.moves.specs.Fill.{Above, Shifts}
 use Rattle.moves.proofs.PlaceLaws.{upward-off, places-put, parent-places, depth_falls, shifts_none, gives_more, gives_fits}
 use Rattle.moves.proofs.fill.give_back.Goals as goal
 use Rattle.moves.proofs.fill.give_back.Goals.{Start}

@@ -1,17 +1,11 @@
 -- The loop's invariant: every group from u up and below v has its place back, and `end` lies above v. So v is a group while it is not `end`
 -- (`upward-off`), there is room for its place (`gives_fits`), and its depth falls.
-use Prim.Native.Nat.{ℕ}
-use mathlib.Core.List.{List}
 use Rattle.scratch.specs.Memory.{memory}
-use borrow.Author.Rules.{rules}
 use lib.ListN.{length}
-use mathlib.Core.Path.{sym, ◌∙◌, ◌≡◌, refl}
-use native.Mathlib.Omega.{arith}
+use mathlib.Core.Path.{◌≡◌}
 use Rattle.theory.specs.Chain.{depth}
 use Rattle.scratch.specs.Map.{parent_of}
-use Rattle.scratch.proofs.MapLaws.{room-keeps}
 use Rattle.moves.specs.Fill.{Above, Shifts}
-use Rattle.moves.proofs.PlaceLaws.{upward-off, places-put, parent-places, depth_falls, shifts_none, gives_more, gives_fits}
 use Rattle.moves.proofs.fill.give_back.Given as goal
 
 abbrev pub invariant-loop-v : goal.invariant-loop-v

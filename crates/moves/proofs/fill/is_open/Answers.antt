@@ -2,7 +2,6 @@
 use Prim.Native.Nat.{ℕ}
 use mathlib.Core.List.{List}
 use Rattle.scratch.specs.Memory.{memory}
-use borrow.Author.Rules.{rules}
 use native.Mathlib.Omega.{arith}
 use Rattle.theory.proofs.ResidualLaws.{card-below, shop-below}
 use Rattle.scratch.specs.View.{net_of}

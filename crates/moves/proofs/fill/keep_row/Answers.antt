@@ -1,6 +1,5 @@
 -- Places are taken for the shop node and then for the card node. Where the first has none nothing was taken; where the second has none the
 -- first ones are given back, so that all places are as they were (`added-same`). Where both are taken the row goes in (`added-row`).
-use mathlib.Core.Path.{◌∙◌}
 use native.Mathlib.Omega.{arith}
 use Rattle.moves.proofs.PlaceLaws.{above-places, ready-state, ready-climbed, shifts-same, shifts-then, added-same, added-row}
 use Rattle.moves.proofs.fill.keep_row.Goals as goal

@@ -1,11 +1,8 @@
-use Rattle.scratch.specs.Memory.{memory}
 use borrow.Author.Rules.{rules}
-use lib.ListN.{length}
-use mathlib.Core.Path.{refl, ◌≡◌}
+use mathlib.Core.Path.{refl}
 use Prim.Native.Nat.{◌-◌}
 use native.Mathlib.Omega.{arith}
 use Rattle.scratch.proofs.MapLaws.{keeps-none, keeps_then, put_keeps, room-keeps}
-use Rattle.moves.specs.Fill.{OnlyMarks}
 use Rattle.moves.proofs.fill.open_all.Goals as goal
 
 pub overflow_add-nodes : goal.overflow_add-nodes

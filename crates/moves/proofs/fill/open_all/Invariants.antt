@@ -1,11 +1,8 @@
 -- The loop's invariant: only marks changed. One store into the queue more leaves it so (`put_keeps`).
 use Rattle.scratch.specs.Memory.{memory}
-use borrow.Author.Rules.{rules}
 use lib.ListN.{length}
-use mathlib.Core.Path.{refl, ◌≡◌}
+use mathlib.Core.Path.{◌≡◌}
 use Prim.Native.Nat.{◌-◌}
-use native.Mathlib.Omega.{arith}
-use Rattle.scratch.proofs.MapLaws.{keeps-none, keeps_then, put_keeps, room-keeps}
 use Rattle.moves.specs.Fill.{OnlyMarks}
 use Rattle.moves.proofs.fill.open_all.Given as goal
 

@@ -1,12 +1,7 @@
-use Rattle.scratch.specs.Memory.{memory}
 use borrow.Author.Rules.{rules}
-use lib.ListN.{length}
-use mathlib.Core.Path.{refl, ◌∙◌, ◌≡◌}
+use mathlib.Core.Path.{refl, ◌∙◌}
 use native.Mathlib.Omega.{arith}
-use Rattle.theory.specs.Chain.{depth}
-use Rattle.scratch.specs.Map.{parent_of}
 use Rattle.scratch.proofs.MapLaws.{keeps-none, keeps_then, put_keeps, room-keeps}
-use Rattle.moves.specs.Fill.{OnlyMarks}
 use Rattle.moves.proofs.PlaceLaws.{marks-places, depth_falls}
 use Rattle.moves.proofs.fill.shut_up_to.Goals as goal
 

@@ -1,15 +1,11 @@
 -- The loop's invariant: only marks changed, so the parents are those at entry. The depth of v falls with each turn, also where `end` is never
 -- met.
 use Rattle.scratch.specs.Memory.{memory}
-use borrow.Author.Rules.{rules}
 use lib.ListN.{length}
-use mathlib.Core.Path.{refl, ◌∙◌, ◌≡◌}
-use native.Mathlib.Omega.{arith}
+use mathlib.Core.Path.{◌≡◌}
 use Rattle.theory.specs.Chain.{depth}
 use Rattle.scratch.specs.Map.{parent_of}
-use Rattle.scratch.proofs.MapLaws.{keeps-none, keeps_then, put_keeps, room-keeps}
 use Rattle.moves.specs.Fill.{OnlyMarks}
-use Rattle.moves.proofs.PlaceLaws.{marks-places, depth_falls}
 use Rattle.moves.proofs.fill.shut_up_to.Given as goal
 
 abbrev pub invariant-loop-v : goal.invariant-loop-v

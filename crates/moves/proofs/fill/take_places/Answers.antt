@@ -1,6 +1,5 @@
 -- A climb that comes to the root took all places (`tried-all`). One that ends at a group without a place took those below it, and the same
 -- walk gives them back; the marks that are set then are no places (`tried-none`).
-use mathlib.Core.Path.{◌∙◌}
 use Rattle.scratch.proofs.MapLaws.{keeps_then}
 use Rattle.moves.proofs.PlaceLaws.{above-places, rooted-places, ready-climbed, tried-all, tried-none}
 use Rattle.moves.proofs.fill.take_places.Goals as goal

@@ -1,7 +1,6 @@
 -- The spliced way is a path (`join-path`). Turning it leaves labels and queue, so both ends still stand in the queue, and their nodes are
 -- made fresh again (`join-exchanged`).
 use native.Mathlib.Omega.{arith}
-use borrow.Author.Rules.{rules}
 use Rattle.moves.proofs.JoinLaws.{join-path, join_first, join-second, join-exchanged}
 use Rattle.moves.proofs.join.turn_joined.Goals as goal
 
@@ -19,7 +18,7 @@ relabel-requires c =
 pub relabel_last-requires : goal.relabel_last-requires
 relabel_last-requires c =
     record {
-      fact = join-second c.requires c.splice.ensures c.flip.ensures c.relabel.ensures;
+      queued = join-second c.requires c.splice.ensures c.flip.ensures c.relabel.ensures;
       x_lt_cell_bound = omega
           (arith, c.requires.joined.ready.buffers.room.few.fresh);
     }

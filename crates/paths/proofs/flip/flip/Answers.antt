@@ -1,10 +1,8 @@
-use Rattle.scratch.specs.Memory.{memory}
 use borrow.Author.Rules.{rules}
-use mathlib.Core.Path.{◌≡◌, refl}
-use Prim.Native.Nat.{◌+◌, ◌-◌}
-use lib.ListN.{length}
+use mathlib.Core.Path.{refl}
+use Prim.Native.Nat.{◌-◌}
 use native.Mathlib.Omega.{arith}
-use Rattle.paths.proofs.FlipLaws.{At, at_first, at-turning, at_next, at-end, at_more}
+use Rattle.paths.proofs.FlipLaws.{at_first, at-turning, at_next, at-end, at_more}
 use Rattle.paths.proofs.flip.flip.Goals as goal
 
 pub loop-u-init : goal.loop-u-init

@@ -2,12 +2,10 @@
 -- Each turn goes to a node that was reached earlier (`at_next`), so that there are no more turns than nodes (`at_more`); at the start the
 -- whole path is turned (`at-end`).
 use Rattle.scratch.specs.Memory.{memory}
-use borrow.Author.Rules.{rules}
-use mathlib.Core.Path.{◌≡◌, refl}
+use mathlib.Core.Path.{◌≡◌}
 use Prim.Native.Nat.{◌+◌, ◌-◌}
 use lib.ListN.{length}
-use native.Mathlib.Omega.{arith}
-use Rattle.paths.proofs.FlipLaws.{At, at_first, at-turning, at_next, at-end, at_more}
+use Rattle.paths.proofs.FlipLaws.{At}
 use Rattle.paths.proofs.flip.flip.Given as goal
 
 abbrev pub invariant-loop-u : goal.invariant-loop-u

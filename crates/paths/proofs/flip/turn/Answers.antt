@@ -5,7 +5,6 @@ use mathlib.Core.Path.{ap}
 use Prim.Native.Nat.{ℕ, ◌-◌}
 use native.Mathlib.Omega.{arith}
 use Rattle.paths.proofs.TurnLaws.{good-down, good-row, good-up, turned_down, turned-row, turned_up}
-use borrow.Author.Rules.{rules}
 use Rattle.paths.proofs.flip.turn.Goals as goal
 
 pub shift-requires : goal.shift-requires
@@ -15,7 +14,7 @@ shift-requires c =
     record {
       room = c.requires.ready.buffers.room;
       v_lt_groups = low;
-      fact = (good-down c.requires.good number low, c.requires.low _ low);
+      places = (good-down c.requires.good number low, c.requires.low _ low);
     }
 
 pub returns-then-e-g : goal.returns-then-e-g
@@ -45,7 +44,7 @@ shift-requires-2 c =
     record {
       room = c.requires.ready.buffers.room;
       v_lt_groups = G.0;
-      fact = (G.1, c.requires.low _ G.0);
+      places = (G.1, c.requires.low _ G.0);
     }
 
 pub returns : goal.returns

@@ -5,7 +5,6 @@ use mathlib.Core.Logic.{inl, inr}
 use native.Mathlib.Omega.{arith}
 use Rattle.scratch.specs.Map.{kept_of}
 use Rattle.paths.proofs.TurnLaws.{row-turned}
-use borrow.Author.Rules.{rules}
 use Rattle.paths.proofs.flip.turn_row.Goals as goal
 
 pub returns-then-kept-eq1 : goal.returns-then-kept-eq1

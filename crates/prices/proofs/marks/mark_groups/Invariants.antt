@@ -1,14 +1,10 @@
 -- The loop's invariant: the groups from v on have their marks, and the others still their prices. A parent has a smaller number than its
 -- child, so the two prices that the next mark needs are still there (`marking-group`).
-use mathlib.Core.List.{List}
 use Rattle.scratch.specs.Memory.{memory}
-use borrow.Author.Rules.{rules}
 use lib.ListN.{length}
-use mathlib.Core.Path.{◌≡◌, refl}
-use Prim.Native.Nat.{ℕ, ◌-◌, ◌≤◌}
-use native.Mathlib.Omega.{arith}
+use mathlib.Core.Path.{◌≡◌}
+use Prim.Native.Nat.{◌-◌, ◌≤◌}
 use Rattle.prices.specs.Marks.{Marking}
-use Rattle.prices.proofs.MarkLaws.{priced-long, marking-none, marking-group}
 use Rattle.prices.proofs.marks.mark_groups.Given as goal
 
 abbrev pub invariant-loop-v : goal.invariant-loop-v

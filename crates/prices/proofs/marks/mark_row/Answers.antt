@@ -4,7 +4,6 @@ use mathlib.Core.List.{List}
 use Rattle.scratch.specs.Memory.{memory}
 use Rattle.scratch.proofs.MemoryLaws.{memory-low}
 use native.Mathlib.Omega.{arith}
-use borrow.Author.Rules.{rules}
 use Rattle.theory.specs.Bounds.{cell_bound}
 use Rattle.scratch.specs.Map.{weights, weight_of, price_of}
 use Rattle.scratch.specs.View.{net_of}

@@ -1,11 +1,9 @@
 use mathlib.Core.List.{List}
 use Rattle.scratch.specs.Memory.{memory}
 use borrow.Author.Rules.{rules}
-use lib.ListN.{length}
 use mathlib.Core.Path.{◌≡◌, refl}
-use Prim.Native.Nat.{ℕ, ◌-◌, ◌≤◌}
+use Prim.Native.Nat.{ℕ, ◌-◌}
 use native.Mathlib.Omega.{arith}
-use Rattle.prices.specs.Marks.{Marking}
 use Rattle.prices.proofs.MarkLaws.{priced-long, marking-none, marking-row}
 use Rattle.prices.proofs.marks.mark_rows.Goals as goal
 use Rattle.prices.proofs.marks.mark_rows.Goals.{Start}

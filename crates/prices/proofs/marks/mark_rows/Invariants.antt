@@ -1,13 +1,9 @@
 -- The loop's invariant: the first c rows have their marks, and the groups still their prices, which lie in other cells (`marking-row`).
-use mathlib.Core.List.{List}
 use Rattle.scratch.specs.Memory.{memory}
-use borrow.Author.Rules.{rules}
 use lib.ListN.{length}
-use mathlib.Core.Path.{◌≡◌, refl}
-use Prim.Native.Nat.{ℕ, ◌-◌, ◌≤◌}
-use native.Mathlib.Omega.{arith}
+use mathlib.Core.Path.{◌≡◌}
+use Prim.Native.Nat.{◌-◌, ◌≤◌}
 use Rattle.prices.specs.Marks.{Marking}
-use Rattle.prices.proofs.MarkLaws.{priced-long, marking-none, marking-row}
 use Rattle.prices.proofs.marks.mark_rows.Given as goal
 
 abbrev pub invariant-loop-c : goal.invariant-loop-c

@@ -2,7 +2,6 @@
 use Prim.Native.Nat.{ℕ}
 use mathlib.Core.List.{List}
 use Rattle.scratch.specs.Memory.{memory}
-use mathlib.Core.Path.{◌∙◌}
 use Rattle.prices.proofs.MarkLaws.{priced-long, marking-both}
 use Rattle.prices.proofs.marks.read_marks.Goals as goal
 use Rattle.prices.proofs.marks.read_marks.Goals.{Start}

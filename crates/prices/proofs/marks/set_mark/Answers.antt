@@ -1,5 +1,4 @@
 -- One cell of the sheet is put, and the others stay (`put-mark`).
-use borrow.Author.Rules.{rules}
 use Rattle.scratch.specs.Memory.{memory}
 use Rattle.prices.proofs.MarkLaws.{put-mark}
 use Rattle.prices.proofs.marks.set_mark.Goals as goal

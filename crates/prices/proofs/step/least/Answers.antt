@@ -1,6 +1,5 @@
 -- The arcs of the groups and the rows are all arcs, and the least slack of the rows is taken at most that of the groups (`groups-rows`).
 use Rattle.prices.proofs.StepLaws.{groups-rows}
-use borrow.Author.Rules.{rules}
 use Rattle.prices.proofs.step.least.Goals as goal
 
 pub returns : goal.returns

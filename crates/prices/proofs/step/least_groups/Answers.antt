@@ -1,8 +1,6 @@
-use Rattle.scratch.specs.Memory.{memory}
-use Prim.Native.Nat.{◌-◌, ◌≤◌}
+use Prim.Native.Nat.{◌-◌}
 use native.Mathlib.Nat.{le_antisymm}
 use native.Mathlib.Omega.{arith}
-use Rattle.prices.specs.Step.{GroupsOf}
 use Rattle.prices.proofs.StepLaws.{groups_none, groups-more}
 use Rattle.prices.proofs.step.least_groups.Goals as goal
 

@@ -1,10 +1,7 @@
 -- The loop's invariant: `best` is the least slack of both arcs of the groups below v, at most the toll.
 use Rattle.scratch.specs.Memory.{memory}
 use Prim.Native.Nat.{◌-◌, ◌≤◌}
-use native.Mathlib.Nat.{le_antisymm}
-use native.Mathlib.Omega.{arith}
 use Rattle.prices.specs.Step.{GroupsOf}
-use Rattle.prices.proofs.StepLaws.{groups_none, groups-more}
 use Rattle.prices.proofs.step.least_groups.Given as goal
 
 abbrev pub invariant-loop-v : goal.invariant-loop-v

@@ -1,8 +1,6 @@
-use Rattle.scratch.specs.Memory.{memory}
-use Prim.Native.Nat.{◌+◌, ◌-◌, ◌≤◌}
+use Prim.Native.Nat.{◌-◌}
 use native.Mathlib.Nat.{le_antisymm}
 use native.Mathlib.Omega.{arith}
-use Rattle.prices.specs.Step.{BoundOf}
 use Rattle.theory.proofs.StepLaws.{bound-none}
 use Rattle.prices.proofs.StepLaws.{rows_more}
 use Rattle.prices.proofs.step.least_rows.Goals as goal

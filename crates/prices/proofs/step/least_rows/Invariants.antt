@@ -1,11 +1,7 @@
 -- The loop's invariant: `best` is the least slack of the rows below c, at most `most`.
 use Rattle.scratch.specs.Memory.{memory}
 use Prim.Native.Nat.{◌+◌, ◌-◌, ◌≤◌}
-use native.Mathlib.Nat.{le_antisymm}
-use native.Mathlib.Omega.{arith}
 use Rattle.prices.specs.Step.{BoundOf}
-use Rattle.theory.proofs.StepLaws.{bound-none}
-use Rattle.prices.proofs.StepLaws.{rows_more}
 use Rattle.prices.proofs.step.least_rows.Given as goal
 
 abbrev pub invariant-loop-c : goal.invariant-loop-c

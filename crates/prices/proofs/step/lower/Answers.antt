@@ -1,7 +1,6 @@
 -- An arc whose first end is not reached, or whose second one is, does not leave the reached nodes (`lower-stays`). Of the others the slack
 -- counts where it is less than `best` and the arc is usable (`lower-take`), and else it does not (`lower-keep`, `lower-shut`).
 use Rattle.prices.proofs.StepLaws.{lower-stays, lower-take, lower-keep, lower-shut}
-use borrow.Author.Rules.{rules}
 use Rattle.prices.proofs.step.lower.Goals as goal
 
 pub returns-then-stays : goal.returns-then-stays

@@ -2,7 +2,6 @@
 -- other (`groups-one`).
 use native.Mathlib.Omega.{arith}
 use Rattle.prices.proofs.StepLaws.{along-down, along-up, groups-one}
-use borrow.Author.Rules.{rules}
 use Rattle.prices.proofs.step.lower_group.Goals as goal
 
 pub lower-below-requires : goal.lower-below-requires

@@ -3,7 +3,6 @@
 use native.Mathlib.Omega.{arith}
 use Rattle.prices.proofs.StepLaws.{along-row}
 use Rattle.theory.proofs.TestLaws.{picked}
-use borrow.Author.Rules.{rules}
 use Rattle.prices.proofs.step.lower_row.Goals as goal
 
 pub lower-requires : goal.lower-requires

@@ -1,7 +1,6 @@
 -- A price rises at a card group that is not reached (`moving-card`) and at a shop group that is (`moving-shop`); the pred says which is
 -- reached.
 use Rattle.prices.proofs.StepLaws.{moving-card, moving-shop}
-use borrow.Author.Rules.{rules}
 use Rattle.prices.proofs.step.moves.Goals as goal
 
 pub returns-then-v-cards : goal.returns-then-v-cards

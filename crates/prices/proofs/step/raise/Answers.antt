@@ -1,12 +1,9 @@
-use Rattle.scratch.specs.Memory.{memory}
-use mathlib.Core.Path.{◌≡◌, refl}
-use lib.ListN.{length}
+use mathlib.Core.Path.{refl}
 use borrow.Author.Rules.{rules}
-use Prim.Native.Nat.{◌-◌, ◌≤◌}
+use Prim.Native.Nat.{◌-◌}
 use native.Mathlib.Nat.{le_antisymm}
 use native.Mathlib.Omega.{arith}
 use Rattle.theory.proofs.TestLaws.{picked}
-use Rattle.prices.specs.Step.{Raised}
 use Rattle.prices.proofs.StepLaws.{raised-none, raised-low, raised-one}
 use Rattle.prices.proofs.step.raise.Goals as goal
 

@@ -1,15 +1,10 @@
 -- The loop's invariant: the prices have risen by d at the groups below v that move, and nowhere else (`raised-one`). Each stays in the range
 -- that is asked of the old prices and d (`raised-low`).
 use Rattle.scratch.specs.Memory.{memory}
-use mathlib.Core.Path.{◌≡◌, refl}
+use mathlib.Core.Path.{◌≡◌}
 use lib.ListN.{length}
-use borrow.Author.Rules.{rules}
 use Prim.Native.Nat.{◌-◌, ◌≤◌}
-use native.Mathlib.Nat.{le_antisymm}
-use native.Mathlib.Omega.{arith}
-use Rattle.theory.proofs.TestLaws.{picked}
 use Rattle.prices.specs.Step.{Raised}
-use Rattle.prices.proofs.StepLaws.{raised-none, raised-low, raised-one}
 use Rattle.prices.proofs.step.raise.Given as goal
 
 abbrev pub invariant-loop-v : goal.invariant-loop-v

@@ -2,7 +2,6 @@
 -- (`stepped`), after which the choice and the prices are level again.
 use native.Mathlib.Omega.{arith}
 use Rattle.prices.proofs.StepLaws.{stepped}
-use borrow.Author.Rules.{rules}
 use Rattle.prices.proofs.step.reprice.Goals as goal
 
 pub fall-d-requires : goal.fall-d-requires

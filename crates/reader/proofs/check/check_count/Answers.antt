@@ -1,7 +1,6 @@
 -- `check_count` meets its contract: the file ends before or inside the count, the count is over the most, or neither.
 use mathlib.Core.Path.{sym}
 use native.Mathlib.Omega.{arith}
-use borrow.Author.Rules.{rules}
 use Rattle.reader.proofs.FileLaws.{count_cut, count-large, count_fits}
 use Rattle.reader.proofs.check.check_count.Goals as goal
 

@@ -2,7 +2,6 @@
 -- file's limits are not judged, and a new file's are at fault where one of them is above the parent's.
 use mathlib.Core.Path.{◌≡◌, sym, ap, ◌∙◌}
 use native.Mathlib.Omega.{arith}
-use borrow.Author.Rules.{rules}
 use Rattle.claimfile.specs.File.{columns, word, record_at}
 use Rattle.reader.specs.Reading.{none_above}
 use Rattle.claimfile.proofs.WidthLaws.{width-least, width-inside}

@@ -3,9 +3,7 @@ use Prim.Native.Nat.{◌+◌, ◌-◌, ◌≤◌}
 use native.Mathlib.Omega.{arith}
 use native.Mathlib.Nat.{sub-zero}
 use lib.ListN.{length}
-use borrow.Author.Rules.{rules}
 use Rattle.claimfile.specs.File.{group_width, record_at}
-use Rattle.reader.specs.Reading.{groups_from}
 use Rattle.claimfile.proofs.WidthLaws.{width-inside}
 use Rattle.reader.proofs.FileLaws.{no_record, record-cut, record-fault, next-record}
 use Rattle.reader.proofs.check.check_groups.Goals as goal

@@ -1,15 +1,8 @@
 -- `check_groups` meets its contract. The loop goes through the records that are whole and keeps that the first fault of the records left is
 -- that of all; behind them all records were read, or the next one is cut off.
-use mathlib.Core.Path.{◌≡◌, sym, ◌∙◌}
-use Prim.Native.Nat.{◌+◌, ◌-◌, ◌≤◌}
-use native.Mathlib.Omega.{arith}
-use native.Mathlib.Nat.{sub-zero}
-use lib.ListN.{length}
-use borrow.Author.Rules.{rules}
-use Rattle.claimfile.specs.File.{group_width, record_at}
+use mathlib.Core.Path.{◌≡◌}
+use Prim.Native.Nat.{◌-◌, ◌≤◌}
 use Rattle.reader.specs.Reading.{groups_from}
-use Rattle.claimfile.proofs.WidthLaws.{width-inside}
-use Rattle.reader.proofs.FileLaws.{no_record, record-cut, record-fault, next-record}
 use Rattle.reader.proofs.check.check_groups.Given as goal
 
 abbrev pub invariant-loop-own : goal.invariant-loop-own

@@ -1,10 +1,9 @@
 use mathlib.Core.Path.{◌≡◌, sym, ◌∙◌, ap}
-use Prim.Native.Nat.{◌-◌, ◌≤◌}
+use Prim.Native.Nat.{◌-◌}
 use native.Mathlib.Omega.{arith}
 use native.Mathlib.Nat.{sub-zero}
-use borrow.Author.Rules.{rules}
 use Rattle.claimfile.specs.File.{claim_at}
-use Rattle.reader.specs.Reading.{claim_fault, rows_from}
+use Rattle.reader.specs.Reading.{claim_fault}
 use Rattle.claimfile.specs.declared.Claim.{Claim}
 use Rattle.reader.proofs.FileLaws.{no_record, record-cut, record-fault, next-record}
 use Rattle.reader.proofs.check.check_rows.Goals as goal

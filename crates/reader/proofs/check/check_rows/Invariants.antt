@@ -1,14 +1,8 @@
 -- `check_rows` meets its contract. The loop goes through the records that are whole and keeps that the first fault of the records left is
 -- that of all; behind them all records were read, or the next one is cut off.
-use mathlib.Core.Path.{◌≡◌, sym, ◌∙◌, ap}
+use mathlib.Core.Path.{◌≡◌}
 use Prim.Native.Nat.{◌-◌, ◌≤◌}
-use native.Mathlib.Omega.{arith}
-use native.Mathlib.Nat.{sub-zero}
-use borrow.Author.Rules.{rules}
-use Rattle.claimfile.specs.File.{claim_at}
-use Rattle.reader.specs.Reading.{claim_fault, rows_from}
-use Rattle.claimfile.specs.declared.Claim.{Claim}
-use Rattle.reader.proofs.FileLaws.{no_record, record-cut, record-fault, next-record}
+use Rattle.reader.specs.Reading.{rows_from}
 use Rattle.reader.proofs.check.check_rows.Given as goal
 
 abbrev pub invariant-loop-c : goal.invariant-loop-c

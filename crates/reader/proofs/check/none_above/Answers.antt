@@ -1,9 +1,7 @@
 use mathlib.Core.Path.{sym, ap, ◌∙◌}
-use Prim.Native.Nat.{ℕ, ◌-◌, ◌≤◌, ◌<◌}
+use Prim.Native.Nat.{◌-◌}
 use native.Mathlib.Omega.{arith}
 use borrow.Author.Count.{below_more}
-use borrow.Author.Rules.{rules}
-use Rattle.claimfile.specs.File.{limit_at}
 use Rattle.reader.specs.Reading.{none_above}
 use Rattle.reader.proofs.FileLaws.{above-none, one-above}
 use Rattle.reader.proofs.check.none_above.Goals as goal

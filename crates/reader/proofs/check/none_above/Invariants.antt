@@ -1,12 +1,6 @@
 -- `none_above` meets its contract. The loop keeps that none of the limits before column k is above the parent's.
-use mathlib.Core.Path.{sym, ap, ◌∙◌}
 use Prim.Native.Nat.{ℕ, ◌-◌, ◌≤◌, ◌<◌}
-use native.Mathlib.Omega.{arith}
-use borrow.Author.Count.{below_more}
-use borrow.Author.Rules.{rules}
 use Rattle.claimfile.specs.File.{limit_at}
-use Rattle.reader.specs.Reading.{none_above}
-use Rattle.reader.proofs.FileLaws.{above-none, one-above}
 use Rattle.reader.proofs.check.none_above.Given as goal
 
 abbrev pub invariant-loop-k : goal.invariant-loop-k

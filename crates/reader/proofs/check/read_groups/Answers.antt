@@ -3,7 +3,6 @@ use mathlib.Core.Path.{sym, ◌∙◌, ap, ap₂}
 use Prim.Native.Nat.{ℕ, ◌+◌, ◌*◌, ◌≤◌}
 use native.Mathlib.Omega.{arith}
 use lib.ListN.{length}
-use borrow.Author.Rules.{rules}
 use Rattle.theory.specs.Bounds.{max_groups}
 use Rattle.claimfile.specs.File.{group_width, word}
 use Rattle.reader.specs.Reading.{groups_from, section_of, section_at}

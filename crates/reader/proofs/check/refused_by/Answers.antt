@@ -1,7 +1,6 @@
 -- `refused_by` meets its contract.
 use mathlib.Core.Path.{sym, ap}
 use Rattle.reader.specs.Reading.{refused_by}
-use borrow.Author.Rules.{rules}
 use Rattle.reader.proofs.check.refused_by.Goals as goal
 
 pub returns-in-Faulty : goal.returns-in-Faulty

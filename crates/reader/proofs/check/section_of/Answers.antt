@@ -1,6 +1,5 @@
 -- `section_of` meets its contract: in each case the definition computes to the answer.
 use mathlib.Core.Path.{sym, ap}
-use borrow.Author.Rules.{rules}
 use Rattle.reader.specs.Reading.{section_of}
 use Rattle.reader.specs.declared.Checked.{Checked}
 use Rattle.reader.proofs.check.section_of.Goals as goal

@@ -3,7 +3,6 @@
 use mathlib.Core.Path.{◌≡◌}
 use Prim.Native.Nat.{◌+◌, ◌-◌}
 use native.Mathlib.Omega.{arith}
-use borrow.Author.Rules.{rules}
 use Rattle.residual.proofs.arcs.arc.Goals as goal
 
 pub returns-then-e-g-2 : goal.returns-then-e-g-2

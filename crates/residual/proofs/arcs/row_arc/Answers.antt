@@ -7,7 +7,6 @@ use native.Mathlib.Omega.{arith}
 use Rattle.scratch.specs.Map.{spare_of, card_of, shop_of, kept_of}
 use Rattle.scratch.specs.View.{residual_of}
 use Rattle.residual.proofs.ArcLaws.{leb-says, row_in, row_out}
-use borrow.Author.Rules.{rules}
 use Rattle.residual.proofs.arcs.row_arc.Goals as goal
 use Rattle.residual.proofs.arcs.row_arc.Goals.{Start}
 

@@ -8,7 +8,6 @@ use native.Mathlib.Omega.{arith}
 use Rattle.scratch.specs.Map.{spare_of, kept_of}
 use Rattle.scratch.specs.View.{residual_of}
 use Rattle.residual.proofs.ArcLaws.{ltb-says, true-says, tree-up}
-use borrow.Author.Rules.{rules}
 use Rattle.residual.proofs.arcs.up_arc.Goals as goal
 use Rattle.residual.proofs.arcs.up_arc.Goals.{Start}
 

@@ -6,7 +6,6 @@ use Rattle.scratch.specs.Memory.{memory}
 use mathlib.Core.Path.{sym, ◌∙◌}
 use Rattle.scratch.specs.View.{residual_of}
 use Rattle.residual.proofs.LinkLaws.{after-child, after-card, after-shop}
-use borrow.Author.Rules.{rules}
 use Rattle.residual.proofs.lists.after.Goals as goal
 use Rattle.residual.proofs.lists.after.Goals.{Start}
 

@@ -3,7 +3,6 @@
 use Rattle.scratch.specs.Memory.{memory}
 use lib.Dec.{eqb}
 use native.Mathlib.Omega.{arith}
-use borrow.Author.Rules.{rules}
 use Rattle.theory.proofs.TestLaws.{pick-most}
 use Rattle.scratch.specs.Map.{firsts}
 use Rattle.scratch.proofs.MapLaws.{half-small}

@@ -1,8 +1,6 @@
 -- `drop_row` meets its contract: the row leaves the list of its card node and then that of its shop node (`dropped-placed`). The next items
 -- take half a cell, so each fits as a first item.
-use mathlib.Core.Path.{◌∙◌}
 use native.Mathlib.Omega.{arith}
-use borrow.Author.Rules.{rules}
 use Rattle.scratch.specs.Memory.{memory}
 use Rattle.scratch.specs.Map.{card_afters, shop_afters}
 use Rattle.scratch.proofs.MapLaws.{room-keeps, half-small}

@@ -9,7 +9,6 @@ use Rattle.scratch.specs.Map.{firsts, part}
 use Rattle.scratch.proofs.PartLaws.{half-fits}
 use Rattle.scratch.proofs.MapLaws.{room-keeps, half-small}
 use Rattle.residual.proofs.LinkLaws.{hung-of}
-use borrow.Author.Rules.{rules}
 use Rattle.residual.proofs.lists.hang.Goals as goal
 use Rattle.residual.proofs.lists.hang.Goals.{Start}
 

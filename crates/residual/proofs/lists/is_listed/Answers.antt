@@ -1,7 +1,6 @@
 -- A group that has its parent's price is listed there (`hangs-even`); in the inner branch, where there is a toll and the parent is the
 -- source, only with a place left (`hangs-room`).
 use native.Mathlib.Omega.{arith}
-use borrow.Author.Rules.{rules}
 use lib.Dec.{eqb}
 use borrow.Author.Tests.{eqb-true, not-false}
 use Rattle.residual.proofs.LinkLaws.{hangs-even, hangs-room}

@@ -3,9 +3,7 @@
 use Prim.Native.Nat.{ℕ}
 use mathlib.Core.List.{List}
 use Rattle.scratch.specs.Memory.{memory}
-use mathlib.Core.Path.{◌∙◌}
 use Rattle.residual.proofs.LinkLaws.{linkable-of, links-of, link-then, emptied-linked}
-use borrow.Author.Rules.{rules}
 use Rattle.residual.proofs.lists.link.Goals as goal
 use Rattle.residual.proofs.lists.link.Goals.{Start}
 

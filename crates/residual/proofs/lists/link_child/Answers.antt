@@ -1,6 +1,5 @@
 -- The group is hung at its parent where it is listed, and else the lists are as they were: `child-linked`.
 use native.Mathlib.Omega.{arith}
-use borrow.Author.Rules.{rules}
 use Rattle.residual.proofs.LinkLaws.{parent-node, child-linked}
 use Rattle.residual.proofs.lists.link_child.Goals as goal
 

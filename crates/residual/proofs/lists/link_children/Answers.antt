@@ -1,10 +1,8 @@
 use Rattle.scratch.specs.Memory.{memory}
 use borrow.Author.Rules.{rules}
-use lib.ListN.{length}
 use mathlib.Core.Path.{◌≡◌, refl}
-use Prim.Native.Nat.{◌+◌, ◌-◌, ◌≤◌}
+use Prim.Native.Nat.{◌+◌, ◌-◌}
 use native.Mathlib.Omega.{arith}
-use Rattle.residual.specs.Items.{LinkOf}
 use Rattle.residual.proofs.LinkLaws.{linkable-of, links-of, link-none, link-then}
 use Rattle.residual.proofs.lists.link_children.Goals as goal
 

@@ -1,13 +1,10 @@
 -- The loop's invariant: the lists are those of the items from child v on. The children are linked from the last one down, each before all
 -- that is linked already (`link-then`).
 use Rattle.scratch.specs.Memory.{memory}
-use borrow.Author.Rules.{rules}
 use lib.ListN.{length}
-use mathlib.Core.Path.{◌≡◌, refl}
+use mathlib.Core.Path.{◌≡◌}
 use Prim.Native.Nat.{◌+◌, ◌-◌, ◌≤◌}
-use native.Mathlib.Omega.{arith}
 use Rattle.residual.specs.Items.{LinkOf}
-use Rattle.residual.proofs.LinkLaws.{linkable-of, links-of, link-none, link-then}
 use Rattle.residual.proofs.lists.link_children.Given as goal
 
 abbrev pub invariant-loop-v : goal.invariant-loop-v

@@ -1,13 +1,11 @@
 -- The row is hung at both its nodes where it costs its weight, and else the lists are as they were: `row-linked`.
 use Rattle.scratch.specs.Memory.{memory}
-use mathlib.Core.Path.{◌∙◌}
 use mathlib.Core.List.{List}
 use Prim.Native.Nat.{ℕ}
 use native.Mathlib.Omega.{arith}
 use Rattle.scratch.specs.Map.{card_of, shop_of}
 use Rattle.scratch.proofs.MapLaws.{room-keeps}
 use Rattle.residual.proofs.LinkLaws.{card-node, shop-node, row-linked}
-use borrow.Author.Rules.{rules}
 use Rattle.residual.proofs.lists.link_row.Goals as goal
 use Rattle.residual.proofs.lists.link_row.Goals.{Start}
 

@@ -1,11 +1,8 @@
-use Rattle.scratch.specs.Memory.{memory}
-use mathlib.Core.Path.{◌≡◌, refl}
-use lib.ListN.{length}
-use Prim.Native.Nat.{◌+◌, ◌-◌, ◌≤◌}
+use mathlib.Core.Path.{refl}
+use Prim.Native.Nat.{◌-◌}
 use native.Mathlib.Nat.{le_antisymm}
 use native.Mathlib.Omega.{arith}
 use borrow.Author.Rules.{rules}
-use Rattle.residual.specs.Items.{Emptied}
 use Rattle.scratch.proofs.MapLaws.{room-keeps}
 use Rattle.residual.proofs.LinkLaws.{emptied-none, emptied-more}
 use Rattle.residual.proofs.lists.unlink.Goals as goal

@@ -1,14 +1,9 @@
 -- The loop's invariant: at the nodes below u no item hangs, and only the lists changed.
 use Rattle.scratch.specs.Memory.{memory}
-use mathlib.Core.Path.{◌≡◌, refl}
+use mathlib.Core.Path.{◌≡◌}
 use lib.ListN.{length}
 use Prim.Native.Nat.{◌+◌, ◌-◌, ◌≤◌}
-use native.Mathlib.Nat.{le_antisymm}
-use native.Mathlib.Omega.{arith}
-use borrow.Author.Rules.{rules}
 use Rattle.residual.specs.Items.{Emptied}
-use Rattle.scratch.proofs.MapLaws.{room-keeps}
-use Rattle.residual.proofs.LinkLaws.{emptied-none, emptied-more}
 use Rattle.residual.proofs.lists.unlink.Given as goal
 
 abbrev pub invariant-loop-u : goal.invariant-loop-u

@@ -3,7 +3,6 @@ use Prim.Native.Nat.{ℕ}
 use lib.ListN.{get_or}
 use mathlib.Core.Path.{sym, ap, ◌∙◌}
 use native.Mathlib.Omega.{arith}
-use borrow.Author.Rules.{rules}
 use Rattle.scratch.specs.Memory.{memory}
 use Rattle.scratch.specs.Map.{part, part_of}
 use Rattle.scratch.proofs.MapLaws.{table_at}

@@ -2,7 +2,6 @@
 use mathlib.Core.Path.{◌∙◌}
 use native.Mathlib.Omega.{arith}
 use Rattle.scratch.proofs.MemoryLaws.{wide-within, narrow_within, get-wide, get-narrow}
-use borrow.Author.Rules.{rules}
 use Rattle.scratch.proofs.cells.get.Goals as goal
 
 pub offset_bounds-cells64-at : goal.offset_bounds-cells64-at

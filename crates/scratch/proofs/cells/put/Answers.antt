@@ -3,7 +3,6 @@ use Prim.Native.Nat.{◌<◌}
 use native.Mathlib.Omega.{arith}
 use Rattle.theory.specs.Bounds.{cell_bound}
 use Rattle.scratch.proofs.MemoryLaws.{wide-within, narrow_within, put-wide, put-narrow}
-use borrow.Author.Rules.{rules}
 use Rattle.scratch.proofs.cells.put.Goals as goal
 
 pub offset_bounds-cells64-at : goal.offset_bounds-cells64-at

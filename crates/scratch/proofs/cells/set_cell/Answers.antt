@@ -3,7 +3,6 @@
 use Prim.Native.Nat.{ℕ, ◌<◌}
 use mathlib.Core.Path.{sym, ap, subst, ◌∙◌}
 use native.Mathlib.Omega.{arith}
-use borrow.Author.Rules.{rules}
 use Rattle.scratch.specs.Memory.{memory}
 use Rattle.scratch.specs.Map.{part, with_part, bound}
 use Rattle.scratch.proofs.PartLaws.{bound-cell}

@@ -1,7 +1,6 @@
 use Prim.Native.Nat.{◌-◌}
 use native.Mathlib.Omega.{arith}
-use lib.ListN.{length}
-use Rattle.scratch.proofs.ClearLaws.{Clearing, clearing-none, clearing-more, clearing-all}
+use Rattle.scratch.proofs.ClearLaws.{clearing-none, clearing-more, clearing-all}
 use Rattle.scratch.proofs.clear.clear.Goals as goal
 
 pub loop-i-init : goal.loop-i-init

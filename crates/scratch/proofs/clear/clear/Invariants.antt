@@ -1,8 +1,7 @@
 -- The invariant: the cells before i are 0.
 use Prim.Native.Nat.{◌-◌}
-use native.Mathlib.Omega.{arith}
 use lib.ListN.{length}
-use Rattle.scratch.proofs.ClearLaws.{Clearing, clearing-none, clearing-more, clearing-all}
+use Rattle.scratch.proofs.ClearLaws.{Clearing}
 use Rattle.scratch.proofs.clear.clear.Given as goal
 
 abbrev pub invariant-loop-i : goal.invariant-loop-i

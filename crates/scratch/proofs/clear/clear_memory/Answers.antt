@@ -1,5 +1,4 @@
 -- `clear_memory` meets its contract: at either width the slice that is lent is cleared, and `held` is that slice.
-use borrow.Author.Rules.{rules}
 use Rattle.scratch.proofs.clear.clear_memory.Goals as goal
 
 pub returns-then-wide : goal.returns-then-wide

@@ -1,11 +1,8 @@
-use Rattle.scratch.specs.Memory.{memory}
-use mathlib.Core.Path.{◌≡◌, refl}
-use lib.ListN.{length}
-use mathlib.Core.Bool.{true}
+use mathlib.Core.Path.{refl}
 use native.Mathlib.Omega.{arith}
 use Prim.Native.Nat.{◌-◌}
 use borrow.Author.Rules.{rules}
-use Rattle.search.proofs.ScanLaws.{Along, open-node, open-look, along-first, along-next, along-open, along-item, along-end}
+use Rattle.search.proofs.ScanLaws.{open-node, open-look, along-first, along-next, along-open, along-item, along-end}
 use Rattle.search.proofs.scan.items_in.Goals as goal
 
 pub first-j-requires : goal.first-j-requires

@@ -1,13 +1,11 @@
 -- The invariant: the items before the one at hand have been looked against (`Along`). The items stand in the order of their numbers, so that
 -- the number at hand rises with each turn.
 use Rattle.scratch.specs.Memory.{memory}
-use mathlib.Core.Path.{◌≡◌, refl}
+use mathlib.Core.Path.{◌≡◌}
 use lib.ListN.{length}
 use mathlib.Core.Bool.{true}
-use native.Mathlib.Omega.{arith}
 use Prim.Native.Nat.{◌-◌}
-use borrow.Author.Rules.{rules}
-use Rattle.search.proofs.ScanLaws.{Along, open-node, open-look, along-first, along-next, along-open, along-item, along-end}
+use Rattle.search.proofs.ScanLaws.{Along}
 use Rattle.search.proofs.scan.items_in.Given as goal
 
 abbrev pub invariant-loop-j : goal.invariant-loop-j

@@ -1,5 +1,4 @@
 -- The up arc of a card comes before the items, and that of a shop group after them: together these are all steps from the node.
-use mathlib.Core.Path.{◌∙◌}
 use Rattle.search.proofs.ScanLaws.{open-on, scanned-items, scanned-more, scanned-all, rising-card, rising-shop}
 use Rattle.search.proofs.scan.scan_in.Goals as goal
 
@@ -7,7 +6,7 @@ pub look_above-k-requires : goal.look_above-k-requires
 look_above-k-requires c =
     let O = c.requires in
     record {
-      fact = O;
+      opened = O;
       u_lt_groups = rising-card O;
     }
 
@@ -18,7 +17,7 @@ pub look_above-requires : goal.look_above-requires
 look_above-requires c =
     let O = c.requires in
     record {
-      fact = open-on O (scanned-items O c.look_above-k.ensures c.items_in-m.ensures);
+      opened = open-on O (scanned-items O c.look_above-k.ensures c.items_in-m.ensures);
       u_lt_groups = rising-shop c.args.sh c.args.u;
     }
 

@@ -1,11 +1,8 @@
-use mathlib.Core.Path.{◌≡◌, sym, ◌∙◌}
-use mathlib.Core.Bool.{true}
-use Prim.Native.Nat.{ℕ, ◌-◌, ◌≤◌, ◌<◌}
+use mathlib.Core.Path.{sym, ◌∙◌}
+use Prim.Native.Nat.{◌-◌}
 use native.Mathlib.Omega.{arith}
 use borrow.Author.Count.{below_more}
-use borrow.Author.Tests.{not-true, not-false}
 use Rattle.claimfile.specs.Day.{instance_of}
-use Rattle.sheets.specs.Sheet.{covers}
 use Rattle.sheets.proofs.CoverLaws.{covered-not, covered-all}
 use Rattle.sheets.proofs.cover.covers_all.Goals as goal
 

@@ -1,13 +1,9 @@
 -- The loop keeps that the rows before c are covered. A row that is not ends it, and at its end all are.
-use mathlib.Core.Path.{◌≡◌, sym, ◌∙◌}
+use mathlib.Core.Path.{◌≡◌}
 use mathlib.Core.Bool.{true}
 use Prim.Native.Nat.{ℕ, ◌-◌, ◌≤◌, ◌<◌}
-use native.Mathlib.Omega.{arith}
-use borrow.Author.Count.{below_more}
-use borrow.Author.Tests.{not-true, not-false}
 use Rattle.claimfile.specs.Day.{instance_of}
 use Rattle.sheets.specs.Sheet.{covers}
-use Rattle.sheets.proofs.CoverLaws.{covered-not, covered-all}
 use Rattle.sheets.proofs.cover.covers_all.Given as goal
 
 abbrev pub invariant-loop-c : goal.invariant-loop-c

@@ -1,7 +1,6 @@
 -- The row's mark and the cells of the two nodes where it hangs come to its weight exactly where the true sums do (`covers-is`).
 use mathlib.Core.Path.{◌≡◌, ap, ◌∙◌}
 use native.Mathlib.Omega.{arith}
-use borrow.Author.Rules.{rules}
 use Rattle.claimfile.specs.declared.Claim.{Claim}
 use Rattle.claimfile.specs.Day.{card_node, shop_node}
 use Rattle.instance.proofs.RowLaws.{card-hung, shop-hung, weighed}

@@ -1,5 +1,4 @@
 -- The table of zeros has the price of no group; with the prices of all groups each row is judged by it.
-use borrow.Author.Rules.{rules}
 use Rattle.sheets.proofs.cover.is_covered.Goals as goal
 
 pub price_groups-requires : goal.price_groups-requires

@@ -1,6 +1,5 @@
 -- The price of the node above is there, and with the group's own mark it is the group's price (`priced-more`).
 use native.Mathlib.Omega.{arith}
-use borrow.Author.Rules.{rules}
 use Rattle.sheets.proofs.TableLaws.{priced-more}
 use Rattle.sheets.proofs.cover.price_group.Goals as goal
 

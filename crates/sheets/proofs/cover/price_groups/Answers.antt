@@ -1,9 +1,7 @@
 use mathlib.Core.Path.{◌≡◌, refl}
-use Prim.Native.Nat.{◌+◌, ◌-◌, ◌≤◌}
+use Prim.Native.Nat.{◌+◌, ◌-◌}
 use native.Mathlib.Omega.{arith}
-use lib.ListN.{length}
 use borrow.Author.Rules.{rules}
-use Rattle.sheets.specs.Judge.{Priced}
 use Rattle.instance.proofs.NodeLaws.{groups-few}
 use Rattle.sheets.proofs.TableLaws.{priced-none}
 use Rattle.sheets.proofs.cover.price_groups.Goals as goal

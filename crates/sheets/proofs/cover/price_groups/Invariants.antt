@@ -1,12 +1,8 @@
 -- The loop keeps that the groups before v have their prices (`Priced`), and that the cells are as many as before.
-use mathlib.Core.Path.{◌≡◌, refl}
-use Prim.Native.Nat.{◌+◌, ◌-◌, ◌≤◌}
-use native.Mathlib.Omega.{arith}
+use mathlib.Core.Path.{◌≡◌}
+use Prim.Native.Nat.{◌-◌, ◌≤◌}
 use lib.ListN.{length}
-use borrow.Author.Rules.{rules}
 use Rattle.sheets.specs.Judge.{Priced}
-use Rattle.instance.proofs.NodeLaws.{groups-few}
-use Rattle.sheets.proofs.TableLaws.{priced-none}
 use Rattle.sheets.proofs.cover.price_groups.Given as goal
 
 abbrev pub invariant-loop-v : goal.invariant-loop-v

@@ -1,6 +1,5 @@
 -- Under a root the limit is the written one, and under a group the lesser of the two.
 use native.Mathlib.Omega.{arith}
-use borrow.Author.Rules.{rules}
 use borrow.Author.Tests.{lt-ltb, le-ltb}
 use Rattle.sheets.proofs.total.lower.Goals as goal
 

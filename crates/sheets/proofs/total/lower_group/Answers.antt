@@ -1,7 +1,6 @@
 -- The limit of the node above is there, so the lesser of it and the written one is the group's limit (`lowers-value`).
 use mathlib.Core.Path.{◌∙◌}
 use native.Mathlib.Omega.{arith}
-use borrow.Author.Rules.{rules}
 use Rattle.sheets.proofs.TableLaws.{lowers-value, lowers-more}
 use Rattle.sheets.proofs.total.lower_group.Goals as goal
 

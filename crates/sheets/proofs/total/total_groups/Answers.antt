@@ -1,12 +1,10 @@
 use mathlib.Core.Path.{◌≡◌, refl, ap₂}
-use Prim.Native.Nat.{◌+◌, ◌*◌, ◌-◌, ◌≤◌}
+use Prim.Native.Nat.{◌+◌, ◌*◌, ◌-◌}
 use native.Mathlib.Omega.{arith}
-use lib.ListN.{length}
 use borrow.Author.Rules.{rules}
 use Rattle.theory.proofs.SumLaws.{sum-next}
 use Rattle.claimfile.specs.Day.{limit_of}
 use Rattle.closing.specs.Settle.{mark_of}
-use Rattle.sheets.specs.Judge.{most_product, Lowers, group_total}
 use Rattle.instance.proofs.NodeLaws.{groups-few}
 use Rattle.sheets.proofs.TableLaws.{lowers-none}
 use Rattle.sheets.proofs.CoverLaws.{group-total-none}

@@ -1,11 +1,8 @@
 use mathlib.Core.Path.{◌≡◌}
-use Prim.Native.Nat.{◌+◌, ◌*◌, ◌-◌, ◌≤◌}
+use Prim.Native.Nat.{◌+◌, ◌-◌}
 use native.Mathlib.Omega.{arith}
 use lib.ListN.{get_or}
-use borrow.Author.Rules.{rules}
-use Rattle.theory.specs.Bounds.{cell_bound}
 use Rattle.theory.proofs.SumLaws.{sum-next}
-use Rattle.sheets.specs.Judge.{row_total}
 use Rattle.sheets.proofs.CoverLaws.{row-total-none}
 use Rattle.sheets.proofs.total.total_rows.Goals as goal
 

@@ -1,13 +1,8 @@
 -- The loop keeps the sum of the marks so far, in which no mark is over 2 ^ 32.
 use mathlib.Core.Path.{◌≡◌}
-use Prim.Native.Nat.{◌+◌, ◌*◌, ◌-◌, ◌≤◌}
-use native.Mathlib.Omega.{arith}
-use lib.ListN.{get_or}
-use borrow.Author.Rules.{rules}
+use Prim.Native.Nat.{◌*◌, ◌-◌, ◌≤◌}
 use Rattle.theory.specs.Bounds.{cell_bound}
-use Rattle.theory.proofs.SumLaws.{sum-next}
 use Rattle.sheets.specs.Judge.{row_total}
-use Rattle.sheets.proofs.CoverLaws.{row-total-none}
 use Rattle.sheets.proofs.total.total_rows.Given as goal
 
 abbrev pub invariant-loop-c : goal.invariant-loop-c

@@ -1,6 +1,5 @@
 -- Under a root the limit stays; under a group it is the lesser of the two.
 use native.Mathlib.Omega.{arith}
-use borrow.Author.Rules.{rules}
 use borrow.Author.Tests.{lt-ltb, le-ltb}
 use Rattle.tables.proofs.write.lower.Goals as goal
 

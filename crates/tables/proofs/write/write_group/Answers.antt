@@ -1,6 +1,5 @@
 -- The limit above is read before the stores: one into the table of parents and one into that of places, both at the group's node.
 use native.Mathlib.Omega.{arith}
-use borrow.Author.Rules.{rules}
 use Rattle.scratch.proofs.MapLaws.{room-keeps}
 use Rattle.tables.proofs.WriteLaws.{put-group}
 use Rattle.tables.proofs.write.write_group.Goals as goal

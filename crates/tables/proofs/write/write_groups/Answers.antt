@@ -1,10 +1,7 @@
-use Rattle.scratch.specs.Memory.{memory}
-use lib.ListN.{length}
-use mathlib.Core.Path.{◌≡◌, ◌∙◌, refl}
-use Prim.Native.Nat.{◌-◌, ◌≤◌}
+use mathlib.Core.Path.{refl}
+use Prim.Native.Nat.{◌-◌}
 use native.Mathlib.Omega.{arith}
 use borrow.Author.Rules.{rules}
-use Rattle.tables.specs.Tables.{PutGroups}
 use Rattle.tables.proofs.WriteLaws.{hosts-keeps, groups_none, groups-more}
 use Rattle.tables.proofs.write.write_groups.Goals as goal
 

@@ -1,12 +1,9 @@
 -- The loop keeps that the groups passed are written: writing the next one changes no limit that stands above them.
 use Rattle.scratch.specs.Memory.{memory}
 use lib.ListN.{length}
-use mathlib.Core.Path.{◌≡◌, ◌∙◌, refl}
+use mathlib.Core.Path.{◌≡◌}
 use Prim.Native.Nat.{◌-◌, ◌≤◌}
-use native.Mathlib.Omega.{arith}
-use borrow.Author.Rules.{rules}
 use Rattle.tables.specs.Tables.{PutGroups}
-use Rattle.tables.proofs.WriteLaws.{hosts-keeps, groups_none, groups-more}
 use Rattle.tables.proofs.write.write_groups.Given as goal
 
 abbrev pub invariant-loop-g : goal.invariant-loop-g

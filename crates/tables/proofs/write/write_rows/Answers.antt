@@ -1,10 +1,7 @@
-use Rattle.scratch.specs.Memory.{memory}
 use borrow.Author.Rules.{rules}
-use lib.ListN.{length}
 use mathlib.Core.Path.{◌≡◌, refl}
-use Prim.Native.Nat.{◌-◌, ◌≤◌}
+use Prim.Native.Nat.{◌-◌}
 use native.Mathlib.Omega.{arith}
-use Rattle.tables.specs.Tables.{PutRows}
 use Rattle.tables.proofs.WriteLaws.{stands-keeps, rows_none, rows_more}
 use Rattle.tables.proofs.write.write_rows.Goals as goal
 

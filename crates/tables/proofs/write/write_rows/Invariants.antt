@@ -1,12 +1,9 @@
 -- The loop keeps that the rows passed are written.
 use Rattle.scratch.specs.Memory.{memory}
-use borrow.Author.Rules.{rules}
 use lib.ListN.{length}
-use mathlib.Core.Path.{◌≡◌, refl}
+use mathlib.Core.Path.{◌≡◌}
 use Prim.Native.Nat.{◌-◌, ◌≤◌}
-use native.Mathlib.Omega.{arith}
 use Rattle.tables.specs.Tables.{PutRows}
-use Rattle.tables.proofs.WriteLaws.{stands-keeps, rows_none, rows_more}
 use Rattle.tables.proofs.write.write_rows.Given as goal
 
 abbrev pub invariant-loop-c : goal.invariant-loop-c

@@ -1,5 +1,4 @@
 -- `count_of` meets its contract. Whether the group has a node decides what is told.
-use borrow.Author.Rules.{rules}
 use Rattle.tally.proofs.CallLaws.{show-lacks, show-count}
 use Rattle.tally.proofs.State.count_of.Goals as goal
 

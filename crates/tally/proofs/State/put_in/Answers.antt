@@ -1,11 +1,7 @@
 -- `put_in` meets its contract. A number other than 0 leaves the state as it was; else the row is there, and it is counted and put in.
-use mathlib.Core.Path.{◌≡◌}
-use Prim.Native.Nat.{◌<◌}
 use native.Mathlib.Omega.{arith}
-use borrow.Author.Rules.{rules}
-use Rattle.tally.proofs.CallLaws.{put-lies, put_refused, put-done}
+use Rattle.tally.proofs.CallLaws.{put_refused, put-done}
 use Rattle.tally.proofs.State.put_in.Goals as goal
-use Rattle.tally.proofs.State.put_in.Goals.{After-put_number-put_refusal}
 
 pub returns-then-put_refusal-eq0 : goal.returns-then-put_refusal-eq0
 returns-then-put_refusal-eq0 c =

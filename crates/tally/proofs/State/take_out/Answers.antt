@@ -1,11 +1,7 @@
 -- `take_out` meets its contract. A number other than 0 leaves the state as it was; else the row is there, and it is counted and taken out.
-use mathlib.Core.Path.{◌≡◌}
-use Prim.Native.Nat.{◌<◌}
 use native.Mathlib.Omega.{arith}
-use borrow.Author.Rules.{rules}
-use Rattle.tally.proofs.CallLaws.{take-lies, take-refused, take_done}
+use Rattle.tally.proofs.CallLaws.{take-refused, take_done}
 use Rattle.tally.proofs.State.take_out.Goals as goal
-use Rattle.tally.proofs.State.take_out.Goals.{After-take_number-take_refusal}
 
 pub returns-then-take_refusal-eq0 : goal.returns-then-take_refusal-eq0
 returns-then-take_refusal-eq0 c =

@@ -4,7 +4,6 @@ use native.Mathlib.Omega.{arith}
 use Rattle.scratch.proofs.MapLaws.{room-keeps}
 use Rattle.look.proofs.StepLaws.{same-ready}
 use Rattle.walks.proofs.WalkLaws.{way-small, way-node, went-search, good-went, step-on, step_end, step_back}
-use borrow.Author.Rules.{rules}
 use Rattle.walks.proofs.walk.step.Goals as goal
 
 pub next_way-way-requires : goal.next_way-way-requires

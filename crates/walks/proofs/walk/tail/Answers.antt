@@ -2,7 +2,6 @@
 use mathlib.Core.Path.{sym, ◌∙◌}
 use native.Mathlib.Omega.{arith}
 use Rattle.walks.proofs.WalkLaws.{tail-down, tail-kept, tail-left, tail-up}
-use borrow.Author.Rules.{rules}
 use Rattle.walks.proofs.walk.tail.Goals as goal
 
 pub overflow_sub-e : goal.overflow_sub-e

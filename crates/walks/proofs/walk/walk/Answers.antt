@@ -2,7 +2,6 @@
 -- (`lit-walk`).
 use native.Mathlib.Omega.{arith}
 use Rattle.walks.proofs.WalkLaws.{source-small, lit-set, lit-walk}
-use borrow.Author.Rules.{rules}
 use Rattle.walks.proofs.walk.walk.Goals as goal
 
 pub overflow_mul-by : goal.overflow_mul-by

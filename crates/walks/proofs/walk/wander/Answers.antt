@@ -1,9 +1,7 @@
-use mathlib.Core.Path.{◌≡◌, refl, ◌∙◌}
-use Prim.Native.Nat.{◌+◌, ◌*◌, ◌-◌}
-use lib.ListN.{length}
+use mathlib.Core.Path.{refl, ◌∙◌}
+use Prim.Native.Nat.{◌-◌}
 use native.Mathlib.Omega.{arith}
-use Rattle.scratch.specs.Memory.{memory}
-use Rattle.walks.proofs.WalkLaws.{Roams, roams-first, roam-standing, roam-returns, roam-low, roams-next}
+use Rattle.walks.proofs.WalkLaws.{roams-first, roam-standing, roam-returns, roam-low, roams-next}
 use Rattle.walks.proofs.walk.wander.Goals as goal
 
 pub overflow_add-sink : goal.overflow_add-sink

@@ -1,11 +1,10 @@
 -- The loop's invariant, `Roams`: the walk has come to u by so many steps, or it is ended. It makes fewer steps than twice the nodes
 -- (`roam-low`).
-use mathlib.Core.Path.{◌≡◌, refl, ◌∙◌}
+use mathlib.Core.Path.{◌≡◌}
 use Prim.Native.Nat.{◌+◌, ◌*◌, ◌-◌}
 use lib.ListN.{length}
-use native.Mathlib.Omega.{arith}
 use Rattle.scratch.specs.Memory.{memory}
-use Rattle.walks.proofs.WalkLaws.{Roams, roams-first, roam-standing, roam-returns, roam-low, roams-next}
+use Rattle.walks.proofs.WalkLaws.{Roams}
 use Rattle.walks.proofs.walk.wander.Given as goal
 
 abbrev pub invariant-loop-u : goal.invariant-loop-u

@@ -5,7 +5,6 @@ use borrow.Author.Tests.{eq-eqb, ne_eqb}
 use Rattle.theory.proofs.ResidualLaws.{card-below, shop-below}
 use Rattle.look.proofs.StepLaws.{item-down}
 use Rattle.walks.proofs.WayLaws.{goes-open, goes-shut, goes-child, card-leads, shop-leads}
-use borrow.Author.Rules.{rules}
 use Rattle.walks.proofs.ways.goes_along.Goals as goal
 
 pub goes_down-requires : goal.goes_down-requires

@@ -2,7 +2,6 @@
 use mathlib.Core.Path.{refl, sym, ◌∙◌}
 use borrow.Author.Tests.{eqb-true, eqb-false}
 use Rattle.walks.proofs.WayLaws.{fall-leads, goes-fresh, goes-stale}
-use borrow.Author.Rules.{rules}
 use Rattle.walks.proofs.ways.goes_down.Goals as goal
 
 pub returns-then-is_fresh : goal.returns-then-is_fresh

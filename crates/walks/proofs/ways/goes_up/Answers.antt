@@ -3,7 +3,6 @@ use mathlib.Core.Path.{refl, sym, ◌∙◌}
 use borrow.Author.Tests.{eqb-true, eqb-false}
 use Rattle.look.proofs.StepLaws.{up-node}
 use Rattle.walks.proofs.WayLaws.{leads-room, rise-shut, rise-leads, goes-fresh, goes-stale}
-use borrow.Author.Rules.{rules}
 use Rattle.walks.proofs.ways.goes_up.Goals as goal
 
 pub is_fresh-requires : goal.is_fresh-requires

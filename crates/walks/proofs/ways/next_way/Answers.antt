@@ -1,6 +1,5 @@
 -- Where a shop has a way up, it is that one (`went_up`); else what there is along the items, and then up from a card (`went-both`).
 use Rattle.walks.proofs.WayLaws.{shop-group, went_up, went-both}
-use borrow.Author.Rules.{rules}
 use Rattle.walks.proofs.ways.next_way.Goals as goal
 
 pub way_up-up-requires : goal.way_up-up-requires

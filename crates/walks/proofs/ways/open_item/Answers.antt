@@ -1,7 +1,6 @@
 use Prim.Native.Nat.{◌-◌}
 use native.Mathlib.Omega.{arith}
-use Rattle.scratch.specs.Memory.{memory}
-use Rattle.walks.proofs.WayLaws.{Opening, standing-item, goes-is, opening-first, opening-next, opening-found, opening-end}
+use Rattle.walks.proofs.WayLaws.{standing-item, goes-is, opening-first, opening-next, opening-found, opening-end}
 use Rattle.walks.proofs.ways.open_item.Goals as goal
 
 pub overflow_add-end : goal.overflow_add-end

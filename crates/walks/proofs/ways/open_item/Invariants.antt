@@ -1,9 +1,8 @@
 -- The invariant, `Opening`: along no item from j on and before the one at hand is there a way. The items stand in the order of their
 -- numbers, so that the number at hand rises with each turn.
 use Prim.Native.Nat.{◌-◌}
-use native.Mathlib.Omega.{arith}
 use Rattle.scratch.specs.Memory.{memory}
-use Rattle.walks.proofs.WayLaws.{Opening, standing-item, goes-is, opening-first, opening-next, opening-found, opening-end}
+use Rattle.walks.proofs.WayLaws.{Opening}
 use Rattle.walks.proofs.ways.open_item.Given as goal
 
 abbrev pub invariant-loop-i : goal.invariant-loop-i

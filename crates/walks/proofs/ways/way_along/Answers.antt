@@ -1,7 +1,6 @@
 -- The arc of an item leads from u to one node alone, so the fresh node to which it leads is the one that is read.
 use mathlib.Core.Path.{refl}
 use Rattle.walks.proofs.WayLaws.{child-arc, row-arc, card-leads, shop-leads, child-leads, onto-of}
-use borrow.Author.Rules.{rules}
 use Rattle.walks.proofs.ways.way_along.Goals as goal
 
 pub returns-then-rows-j : goal.returns-then-rows-j

@@ -1,7 +1,6 @@
 -- The items from the cell of u on are looked along, and the cell is set to the one where the way leads (`went_on`).
 use native.Mathlib.Omega.{arith}
 use Rattle.walks.proofs.WayLaws.{standing-point, chosen-half, put-standing, put-chosen, went_on}
-use borrow.Author.Rules.{rules}
 use Rattle.walks.proofs.ways.way_on.Goals as goal
 
 pub queue-at-requires : goal.queue-at-requires

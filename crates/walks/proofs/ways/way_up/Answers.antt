@@ -2,7 +2,6 @@
 use mathlib.Core.Path.{refl, sym, ◌∙◌}
 use mathlib.Core.Bool.{true≢false}
 use Rattle.walks.proofs.WayLaws.{rise-leads, onto-of, onto-ways, ways-none}
-use borrow.Author.Rules.{rules}
 use Rattle.walks.proofs.ways.way_up.Goals as goal
 
 pub parent-v-requires : goal.parent-v-requires
