@@ -14,7 +14,7 @@ use tally::{CELLS, Placed, Tally};
 use tallytables::begin_tally;
 
 // Begins a tally from any sort of file, in lent tables. They have 2,048 cells by their type, which a contract cannot name: it is asked here,
-// and proved of the exports' calls. It is public so that these can name it.
+// and proved where the exports call it.
 pub fn tally_begin_as(
     file: &[u8],
     week: bool,
