@@ -100,8 +100,8 @@ module _ (f : Form) (s ch sheet t ch' sheet' t' : List ℕ) (r : Settled) (a : T
       record {
         layout = d.layout;
         accepted = d.accepted;
-        choices = omega (arith, d.enough.choices, d.closes.choice-rest.long);
-        sheets = omega (arith, d.enough.sheets, d.closes.sheet-rest.long);
+        choices = omega (arith, d.enough.choices, d.closes.choice_rest.long);
+        sheets = omega (arith, d.enough.sheets, d.closes.sheet_rest.long);
         known = d.known;
         accepts = record {
           choice = record { bits = d.closes.choice.bits; fits = d.closes.choice.fits };

@@ -15,16 +15,16 @@ abbrev pub SmallerOrTop : ℕ → ℕ → Type 0
 SmallerOrTop own parent = (parent < own) ⊎ (parent ≡ top)
 
 pub record Sound (s : List ℕ) (l : Layout) : Type 0 where
-  pub card-place : l.card_at ≡ 2
-  pub shop-place : l.shop_at ≡ 4 + group_width l.week * l.cards
-  pub row-place : l.row_at ≡ 6 + group_width l.week * (l.cards + l.shops)
+  pub card_place : l.card_at ≡ 2
+  pub shop_place : l.shop_at ≡ 4 + group_width l.week * l.cards
+  pub row_place : l.row_at ≡ 6 + group_width l.week * (l.cards + l.shops)
   pub size : length s ≡ 6 + group_width l.week * (l.cards + l.shops) + claim_width * l.rows
-  pub cards-most : l.cards ≤ max_groups
-  pub shops-most : l.shops ≤ max_groups
-  pub rows-most : l.rows ≤ max_rows
+  pub cards_most : l.cards ≤ max_groups
+  pub shops_most : l.shops ≤ max_groups
+  pub rows_most : l.rows ≤ max_rows
   pub parents : (side g : ℕ) → g < count_of l side → SmallerOrTop g (group_of s l side g).parent
-  pub row-cards : (c : ℕ) → c < l.rows → named_card s l c < l.cards
-  pub row-shops : (c : ℕ) → c < l.rows → named_shop s l c < l.shops
+  pub row_cards : (c : ℕ) → c < l.rows → named_card s l c < l.cards
+  pub row_shops : (c : ℕ) → c < l.rows → named_shop s l c < l.shops
 
 abbrev pub Kinds : ℕ → List ℕ → Layout → Type 0
 Kinds K s l = (c : ℕ) → c < l.rows → kind_of s l c < K

@@ -1,7 +1,7 @@
 -- A group section in the old layout and its widening (specs/Widened.antt) are judged alike: the same records are whole, and those
 -- have the same parents and on every day the same limits, so the first fault is the same. A record has 4 bytes in the old layout
 -- and 16 in the week layout.
---   record-widened record-copied   the next record, whole or not
+--   record_widened record_copied   the next record, whole or not
 --   records-widened            the first of many records
 --   section-widened section-whole section-copied   a section by its first records, one that is whole, and a count that is not
 --   every_one none_alike       a limit is above its parent's where it is on each of seven days
@@ -43,11 +43,11 @@ use Rattle.claimwriter.proofs.WrittenLaws.{word_back, group-back, section-length
 -- The bytes of a widened section, of the part of s that starts at a place
 
 module _ (next : List ℕ → List ℕ) (s : List ℕ) where
-  record-widened :
+  record_widened :
       (n at : ℕ) → at + 4 ≤ length s →
       widen_records (suc n) next (drop at s) ≡ group_bytes (widen_record s at) ++ widen_records n next (drop (at + 4) s)
   unfolding widen_records
-  record-widened n at whole =
+  record_widened n at whole =
       let long : 4 ≤ length (drop at s) = omega (arith, length-drop at s) in
       rw (le-ltb _ _ long)
       (ap₂ ◌++◌
@@ -55,9 +55,9 @@ module _ (next : List ℕ → List ℕ) (s : List ℕ) where
       (sym (word-part s at 2 (at + 2 + 0) (omega arith))))
       (ap (widen_records n next) (drop-drop 4 at s)))
 
-  record-copied : (n at : ℕ) → at ≤ length s → length s < at + 4 → widen_records (suc n) next (drop at s) ≡ drop at s
+  record_copied : (n at : ℕ) → at ≤ length s → length s < at + 4 → widen_records (suc n) next (drop at s) ≡ drop at s
   unfolding widen_records
-  record-copied n at inside short =
+  record_copied n at inside short =
       let cut : length (drop at s) < 4 = omega (arith, length-drop at s) in
       rw (lt-ltb _ _ cut)
 
@@ -83,7 +83,7 @@ module _ (next : List ℕ → List ℕ) (s : List ℕ) where
           let less : n - j ≡ suc (n - suc j) = omega arith in
           let after : a + 4 * j + 4 ≡ a + 4 * suc j = omega arith in
           ap (λ m. widen_records m next (drop (a + 4 * j) s)) less
-          ∙ record-widened (n - suc j) (a + 4 * j) (omega arith)
+          ∙ record_widened (n - suc j) (a + 4 * j) (omega arith)
           ∙ ap (λ b. wide j ++ widen_records (n - suc j) next (drop b s)) after
 
   section-widened :
@@ -253,7 +253,7 @@ module _
                 let at = a + 2 + 4 * j in
                 let less : n - j ≡ suc (n - suc j) = omega arith in
                 let copied : left j ≡ drop at s = ap (λ m. widen_records m next (drop at s)) less
-                ∙ record-copied next s (n - suc j) at (omega arith) (omega arith) in
+                ∙ record_copied next s (n - suc j) at (omega arith) (omega arith) in
                 let there : length t < b + 2 + 16 * g + 16 = omega (
                   arith,
                   size j (omega arith) (omega arith),

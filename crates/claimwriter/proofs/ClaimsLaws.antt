@@ -62,17 +62,17 @@ module _ (f : Form) (s : List ℕ) (l : Layout) (is : reading f s ≡ Accepted l
 
   -- the claims stand behind the shop groups and their own count
   rows-place : l.row_at ≡ l.shop_at + group_width l.week * l.shops + 2
-  rows-place = omega (arith, sound.row-place, sound.shop-place, width-split l.week l.cards l.shops)
+  rows-place = omega (arith, sound.row_place, sound.shop_place, width-split l.week l.cards l.shops)
 
   pub rows-past : 2 ≤ l.row_at
   rows-past = omega (arith, rows-place)
 
   pub rows_end : length s ≡ l.row_at + claim_width * l.rows
-  rows_end = omega (arith, sound.row-place, sound.size)
+  rows_end = omega (arith, sound.row_place, sound.size)
 
   -- and the shop groups behind the card groups and their count
   shops-place : l.shop_at ≡ l.card_at + group_width l.week * l.cards + 2
-  shops-place = omega (arith, sound.card-place, sound.shop-place)
+  shops-place = omega (arith, sound.card_place, sound.shop_place)
 
   module _ (t : List ℕ) (own : OwnBytes s 0 t 0 (row_count_place l)) (n : ℕ) where
     abbrev m : Layout
@@ -86,8 +86,8 @@ module _ (f : Form) (s : List ℕ) (l : Layout) (is : reading f s ≡ Accepted l
     same-group zero g h =
         let w = l.week in
         group-own s t 0 0 (2 + group_width w * l.cards)
-        (own-from 0 (2 + group_width w * l.cards) (omega (arith, sound.card-place, shops-place, rows-place))) w (column_of w l.day)
-        l.card_at l.card_at g (column-small w l.day) sound.card-place sound.card-place
+        (own-from 0 (2 + group_width w * l.cards) (omega (arith, sound.card_place, shops-place, rows-place))) w (column_of w l.day)
+        l.card_at l.card_at g (column-small w l.day) sound.card_place sound.card_place
         (omega (arith, width-inside w g l.cards h))
     same-group (suc k) g h =
         let w = l.week in
@@ -113,7 +113,7 @@ module _ (f : Form) (s : List ℕ) (l : Layout) (is : reading f s ≡ Accepted l
             (l.card_at ≡ 2) × (l.shop_at ≡ l.card_at + group_width f.week * l.cards + 2)
             × (l.row_at ≡ l.shop_at + group_width f.week * l.shops + 2)
         places =
-            (sound.card-place, omega (arith, shops-place, wide_is l.cards), omega (arith, rows-place, wide_is l.shops))
+            (sound.card_place, omega (arith, shops-place, wide_is l.cards), omega (arith, rows-place, wide_is l.shops))
 
         card-section : section_at f t 0 ≡ Read l.cards (0 + 2) next
         card-section =
@@ -124,7 +124,7 @@ module _ (f : Form) (s : List ℕ) (l : Layout) (is : reading f s ≡ Accepted l
         shop-section : section_at f t next ≡ Read l.shops (next + 2) after
         shop-section =
             let place : next ≡ place_on f s 1 =
-            sym (ap behind (accepted-sections f s l is 0 (omega arith)) ∙ omega (arith, sound.card-place, wide_is l.cards)) in
+            sym (ap behind (accepted-sections f s l is 0 (omega arith)) ∙ omega (arith, sound.card_place, wide_is l.cards)) in
             section-own f s t next next l.shops l.shop_at _
             (ap (section_at f s) place ∙ accepted-sections f s l is 1 (omega arith))
             (own-from next (2 + group_width f.week * l.shops) (omega (arith, places)))
@@ -158,4 +158,4 @@ module _ (f : Form) (s : List ℕ) (l : Layout) (is : reading f s ≡ Accepted l
             accepted first_terms f t l.cards (0 + 2) next card-section l.shops (next + 2) after shop-section n (after + 2)
             (after + 2 + claim_width * n) claim-section (omega (arith, long, first-row))
             ∙ layout-same l n f.week l.week f.day l.day _ _ _ _ _ _ (sym (accepted-week f s l is))
-            (sym (accepted-day f s l is)) (sym sound.card-place) (omega (arith, places)) first-row
+            (sym (accepted-day f s l is)) (sym sound.card_place) (omega (arith, places)) first-row

@@ -38,36 +38,36 @@ module _ (day : ℕ) (s : List ℕ) (l : Layout) (is : reading (new_week day) s 
   in-week : (n : ℕ) → group_width l.week * n ≡ 16 * n
   in-week n = ap (λ (w : Bool). group_width w * n) (accepted-week (new_week day) s l is)
 
-  shop-place : 4 + 16 * l.cards ≡ l.shop_at
-  shop-place = omega (arith, sound.shop-place, in-week l.cards)
+  shop_place : 4 + 16 * l.cards ≡ l.shop_at
+  shop_place = omega (arith, sound.shop_place, in-week l.cards)
 
-  row-place : 6 + 16 * (l.cards + l.shops) ≡ l.row_at
-  row-place = omega (arith, sound.row-place, in-week (l.cards + l.shops))
+  row_place : 6 + 16 * (l.cards + l.shops) ≡ l.row_at
+  row_place = omega (arith, sound.row_place, in-week (l.cards + l.shops))
 
   pub counts-within : 6 + 16 * (l.cards + l.shops) ≤ length s
   counts-within = omega (arith, sound.size, in-week (l.cards + l.shops))
 
   pub cards-read : (a : ℕ) → a ≡ word s 0 → a ≡ l.cards
   cards-read a e =
-      let place : 0 ≡ count_place l 0 = omega (arith, sound.card-place) in
+      let place : 0 ≡ count_place l 0 = omega (arith, sound.card_place) in
       e ∙ ap (word s) place ∙ count-stands (new_week day) s l is 0 (omega arith)
 
   pub shops-read : (a b : ℕ) → a ≡ l.cards → b ≡ word s (2 + 16 * a) → b ≡ l.shops
   shops-read a b cards e =
-      let place : 2 + 16 * a ≡ count_place l 1 = omega (arith, cards, shop-place) in
+      let place : 2 + 16 * a ≡ count_place l 1 = omega (arith, cards, shop_place) in
       e ∙ ap (word s) place ∙ count-stands (new_week day) s l is 1 (omega arith)
 
   pub rows-read : (a b r : ℕ) → a ≡ l.cards → b ≡ l.shops → r ≡ word s (4 + 16 * (a + b)) → r ≡ l.rows
   rows-read a b r cards shops e =
-      let place : 4 + 16 * (a + b) ≡ row_count_place l = omega (arith, cards, shops, row-place) in
+      let place : 4 + 16 * (a + b) ≡ row_count_place l = omega (arith, cards, shops, row_place) in
       e ∙ ap (word s) place ∙ accepted-rows (new_week day) s l is
 
   pub layout-read : (a b r : ℕ) → a ≡ l.cards → b ≡ l.shops → r ≡ l.rows → on_day (layout_for a b r) day ≡ l
   layout-read a b r cards shops rows =
       let week : true ≡ l.week = sym (accepted-week (new_week day) s l is) in
       let today : day ≡ l.day = sym (accepted-day (new_week day) s l is) in
-      let card-start : 2 ≡ l.card_at = sym sound.card-place in
-      let shop-start : 4 + 16 * a ≡ l.shop_at = omega (arith, cards, shop-place) in
-      let row-start : 6 + 16 * (a + b) ≡ l.row_at = omega (arith, cards, shops, row-place) in
+      let card-start : 2 ≡ l.card_at = sym sound.card_place in
+      let shop-start : 4 + 16 * a ≡ l.shop_at = omega (arith, cards, shop_place) in
+      let row-start : 6 + 16 * (a + b) ≡ l.row_at = omega (arith, cards, shops, row_place) in
       let whole : on_day l l.day ≡ l = refl in
       cc

@@ -215,5 +215,5 @@ put_word s at n l =
 pub group-room :
     (l : Layout) (out : List ℕ) → Room l out → (side g : ℕ) → g < count_of l side →
     group_place l side g + group_width true ≤ length out
-group-room l out room zero g h = omega (arith, room.laid.card-place, room.long)
-group-room l out room (suc n) g h = omega (arith, room.laid.shop-place, room.long)
+group-room l out room zero g h = omega (arith, room.laid.card_place, room.long)
+group-room l out room (suc n) g h = omega (arith, room.laid.shop_place, room.long)

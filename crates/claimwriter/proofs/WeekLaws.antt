@@ -51,14 +51,14 @@ module _ (s : List ℕ) (l : Layout) where
     pub contents-ranged : Ranged (contents_in s l)
     contents-ranged = record {
       sides = two-sided;
-      cards-most = sound.cards-most;
-      shops-most = sound.shops-most;
-      rows-most = sound.rows-most;
+      cards_most = sound.cards_most;
+      shops_most = sound.shops_most;
+      rows_most = sound.rows_most;
       parents = λ side g h. sound.parents side g (omega (arith, count-of side));
       limits = λ k side g small h. limit-most k side g;
-      claim-cards = sound.row-cards;
-      claim-shops = sound.row-shops;
-      claim-kinds = λ c h. omega (arith, two c h);
+      claim_cards = sound.row_cards;
+      claim_shops = sound.row_shops;
+      claim_kinds = λ c h. omega (arith, two c h);
     }
 
     pub contents-proper : NoneAbove s l → Proper (contents_in s l)
@@ -125,10 +125,10 @@ module _ (f : Form) (s : List ℕ) (l : Layout) (is : reading f s ≡ Accepted l
       elim (dec_lt c l.rows) [
         | yes h ↦ week-row c h
         | no h ↦
-            no-claim (drop l.row_at s) c (omega (arith, length-drop l.row_at s, sound.size, sound.row-place))
+            no-claim (drop l.row_at s) c (omega (arith, length-drop l.row_at s, sound.size, sound.row_place))
             ∙ sym
             (no-claim (drop m.row_at t) c
-            (omega (arith, length-drop m.row_at t, week-sound.size, week-sound.row-place)))
+            (omega (arith, length-drop m.row_at t, week-sound.size, week-sound.row_place)))
       ]
     where
       week-sound : Sound t m

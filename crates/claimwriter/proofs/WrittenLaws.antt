@@ -285,8 +285,8 @@ module _ (d : Contents) where
 
   module _ (ranged : Ranged d) where
     most : (side : ℕ) → records_on d side ≤ max_groups
-    most zero = ranged.cards-most
-    most (suc n) = ranged.shops-most
+    most zero = ranged.cards_most
+    most (suc n) = ranged.shops_most
 
     within : (side : ℕ) → start_of l side + group_width true * records_on d side ≤ length s
     within zero = omega (arith, written-length)
@@ -344,14 +344,14 @@ module _ (d : Contents) where
     rows-read =
         let count = word_back s (row_count_place l) d.rows written-row-count in
         section-passes s (row_count_place l) max_rows ClaimCount claim_width _ d.rows l.row_at (length_of d)
-        (omega (arith, written-length)) count ranged.rows-most
+        (omega (arith, written-length)) count ranged.rows_most
         (rw (← rows_behind, count)
         (records-pass (length (claims s l)) 0 claim_width (λ c. claim_fault first_terms (claim_of s l c) d.cards d.shops) d.rows
         (λ c h. omega (arith, written-length, length-drop l.row_at s))
         (λ c h.
         ap (λ (x : Claim). claim_fault first_terms x d.cards d.shops) (written-claim c h)
-        ∙ claim-passes first_terms (d.claim c) d.cards d.shops (ranged.claim-cards c h) (ranged.claim-shops c h)
-        (omega (arith, ranged.claim-kinds c h)))
+        ∙ claim-passes first_terms (d.claim c) d.cards d.shops (ranged.claim_cards c h) (ranged.claim_shops c h)
+        (omega (arith, ranged.claim_kinds c h)))
         d.rows 0 (omega arith)))
         rows_behind (omega arith)
 
@@ -389,12 +389,12 @@ module _ (d : Contents) where
     claim-bytes c h =
         bytes-append (bytes_of (d.claim c).card ++ bytes_of (d.claim c).shop) ((d.claim c).kind ∷ [])
         (bytes-append (bytes_of (d.claim c).card) (bytes_of (d.claim c).shop)
-        (bytes_word (d.claim c).card (omega (arith, ranged.claim-cards c h, ranged.cards-most)))
-        (bytes_word (d.claim c).shop (omega (arith, ranged.claim-shops c h, ranged.shops-most))))
+        (bytes_word (d.claim c).card (omega (arith, ranged.claim_cards c h, ranged.cards_most)))
+        (bytes_word (d.claim c).shop (omega (arith, ranged.claim_shops c h, ranged.shops_most))))
         kind
       where
         kind : Bytes ((d.claim c).kind ∷ [])
-        kind zero = omega (arith, ranged.claim-kinds c h)
+        kind zero = omega (arith, ranged.claim_kinds c h)
         kind (suc i) = omega arith
 
     pub written-bytes : (i : ℕ) → get_or (file_bytes d) i 0 < 256
@@ -402,7 +402,7 @@ module _ (d : Contents) where
     written-bytes =
         bytes-append both (claim_section d)
         (bytes-append (group_section d 0) (group_section d 1) (groups-bytes 0) (groups-bytes 1))
-        (section-bytes d.rows (claims_for d) (omega (arith, ranged.rows-most)) claim-bytes)
+        (section-bytes d.rows (claims_for d) (omega (arith, ranged.rows_most)) claim-bytes)
 
 --------------------------------------------------------------------------------
 -- The same contents, and the same bytes

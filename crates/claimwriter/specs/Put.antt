@@ -40,12 +40,12 @@ claim_place l c = l.row_at + claim_width * c
 
 pub record Laid (l : Layout) : Type 0 where
   pub week : l.week ≡ true
-  pub card-place : l.card_at ≡ 2
-  pub shop-place : l.shop_at ≡ 4 + group_width true * l.cards
-  pub row-place : l.row_at ≡ 6 + group_width true * (l.cards + l.shops)
-  pub cards-most : l.cards ≤ max_groups
-  pub shops-most : l.shops ≤ max_groups
-  pub rows-most : l.rows ≤ max_rows
+  pub card_place : l.card_at ≡ 2
+  pub shop_place : l.shop_at ≡ 4 + group_width true * l.cards
+  pub row_place : l.row_at ≡ 6 + group_width true * (l.cards + l.shops)
+  pub cards_most : l.cards ≤ max_groups
+  pub shops_most : l.shops ≤ max_groups
+  pub rows_most : l.rows ≤ max_rows
 
 pub record Room (l : Layout) (out : List ℕ) : Type 0 where
   pub laid : Laid l

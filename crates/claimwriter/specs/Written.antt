@@ -107,14 +107,14 @@ TwoSided d = (n g : ℕ) → d.group (suc n) g ≡ d.group 1 g
 
 pub record Ranged (d : Contents) : Type 0 where
   pub sides : TwoSided d
-  pub cards-most : d.cards ≤ max_groups
-  pub shops-most : d.shops ≤ max_groups
-  pub rows-most : d.rows ≤ max_rows
+  pub cards_most : d.cards ≤ max_groups
+  pub shops_most : d.shops ≤ max_groups
+  pub rows_most : d.rows ≤ max_rows
   pub parents : (side g : ℕ) → g < records_on d side → SmallerOrTop g (d.group side g).parent
   pub limits : (k side g : ℕ) → k < days → g < records_on d side → (d.group side g).limit k ≤ max_limit
-  pub claim-cards : (c : ℕ) → c < d.rows → (d.claim c).card < d.cards
-  pub claim-shops : (c : ℕ) → c < d.rows → (d.claim c).shop < d.shops
-  pub claim-kinds : (c : ℕ) → c < d.rows → (d.claim c).kind ≤ 1
+  pub claim_cards : (c : ℕ) → c < d.rows → (d.claim c).card < d.cards
+  pub claim_shops : (c : ℕ) → c < d.rows → (d.claim c).shop < d.shops
+  pub claim_kinds : (c : ℕ) → c < d.rows → (d.claim c).kind ≤ 1
 
 pub record Proper (d : Contents) : Type 0 where
   pub ranged : Ranged d

@@ -65,8 +65,8 @@ module _
         (λ v h. front_at sheet sheet' (needed i.net) sheets v (omega arith))
         (λ c h. front_at sheet sheet' (needed i.net) sheets (i.net.groups + c) (omega arith)) C in
         record {
-          group-range = D.group-range;
-          row-range = D.row-range;
+          group_range = D.group_range;
+          row_range = D.row_range;
           cover = D.cover;
           equal = D.equal ∙ same-worth;
         }
@@ -87,9 +87,9 @@ module _
           total = C.counted.total ∙ same-worth ∙ sym whole.equal;
           certified = whole;
           clear = λ k h. front_at t t' (scratch_for i.net) cells k h ∙ C.clear k;
-          choice-rest = front_rest ch ch' i.net.rows choices enough.choices;
-          sheet-rest = front_rest sheet sheet' (needed i.net) sheets enough.sheets;
-          scratch-rest = front_rest t t' (scratch_for i.net) cells enough.cells;
+          choice_rest = front_rest ch ch' i.net.rows choices enough.choices;
+          sheet_rest = front_rest sheet sheet' (needed i.net) sheets enough.sheets;
+          scratch_rest = front_rest t t' (scratch_for i.net) cells enough.cells;
         }
 
 -- the parts that were lent have m marks and n cells, which are the needed numbers
@@ -152,9 +152,9 @@ module _
       total = C.total;
       certified = subst Sheet (power-one (N + 1) 1 refl) C.certified;
       clear = C.clear;
-      choice-rest = C.choice-rest;
-      sheet-rest = C.sheet-rest;
-      scratch-rest = C.scratch-rest;
+      choice_rest = C.choice_rest;
+      sheet_rest = C.sheet_rest;
+      scratch_rest = C.scratch_rest;
     }
 
     pub closed-two : ClosedBy i ch' sheet' t' a → ClosedIn 2 i ch' sheet' t' (first_counts a) a.kept a.total
@@ -178,7 +178,7 @@ module _
       total = C.total;
       certified = subst Sheet (sym (power-one (N + 1) 1 refl)) C.certified;
       clear = C.clear;
-      choice-rest = C.choice-rest;
-      sheet-rest = C.sheet-rest;
-      scratch-rest = C.scratch-rest;
+      choice_rest = C.choice_rest;
+      sheet_rest = C.sheet_rest;
+      scratch_rest = C.scratch_rest;
     }

@@ -28,9 +28,9 @@ pub record ClosesIn
       Certified i.net i.limit (weight_of i.net.rows i.kind) ((i.net.rows + 1) ^ (K - 1)) (row ch') (mark_of sheet')
       (claim_mark_of i.net sheet')
   pub clear : (k : ℕ) → k < scratch_for i.net → get_or t' k 0 ≡ 0
-  pub choice-rest : Rest i.net.rows ch ch'
-  pub sheet-rest : Rest (needed i.net) sheet sheet'
-  pub scratch-rest : Rest (scratch_for i.net) t t'
+  pub choice_rest : Rest i.net.rows ch ch'
+  pub sheet_rest : Rest (needed i.net) sheet sheet'
+  pub scratch_rest : Rest (scratch_for i.net) t t'
 
 -- of the rows that are kept under the first terms those that are not earned are ordinary
 abbrev pub first_counts : Totals → ℕ → ℕ

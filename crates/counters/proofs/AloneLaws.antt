@@ -162,7 +162,7 @@ module _ (n : ℕ) (m : ℕ → Instance) (formed : (k : ℕ) → k < n → Form
               ap up (spot-card k u l) ∙ join.parent-card n m k file u l in
               rw on
               (card-stands ((m k).net.parent u)
-              (elim (f.card-parent u l) [ inl q ↦ inl (omega arith) | inr q ↦ inr q ]))
+              (elim (f.card_parent u l) [ inl q ↦ inl (omega arith) | inr q ↦ inr q ]))
           | no l ↦
               let back : cards k + (u - cards k) ≡ u = omega arith in
               let on : up (spot k u) ≡ shop_up n m k ((m k).net.parent u) =
@@ -171,12 +171,12 @@ module _ (n : ℕ) (m : ℕ → Instance) (formed : (k : ℕ) → k < n → Form
               ∙ ap (λ x. shop_up n m k ((m k).net.parent x)) back in
               rw on
               (shop-stands ((m k).net.parent u)
-              (elim (f.shop-parent u (omega arith) h) [ inl q ↦ inl (q.0, omega (arith, q.1)) | inr q ↦ inr q ]))
+              (elim (f.shop_parent u (omega arith) h) [ inl q ↦ inl (q.0, omega (arith, q.1)) | inr q ↦ inr q ]))
         ]
 
     row-stands : (side c : ℕ) → c < rows k → Stands k (node (m k).net side c) (node whole side (sum k rows + c))
-    row-stands zero c h = rw (join.row-card n m k file c h) (card-stands ((m k).net.card c) (f.card-node c h))
-    row-stands (suc side) c h = rw (join.row-shop n m k file c h) (shop-stands ((m k).net.shop c) (f.shop-node c h))
+    row-stands zero c h = rw (join.row-card n m k file c h) (card-stands ((m k).net.card c) (f.card_node c h))
+    row-stands (suc side) c h = rw (join.row-shop n m k file c h) (shop-stands ((m k).net.shop c) (f.shop_node c h))
 
     ----------------------------------------------------------------------------
     -- What the rows of a file count in

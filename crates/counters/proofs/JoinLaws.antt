@@ -97,12 +97,12 @@ module _ (n : ℕ) (m : ℕ → Instance) where
   -- It is well formed
 
   module _ (formed : (k : ℕ) → k < n → Formed (m k).net) where
-    card-parent : (v : ℕ) → v < oven_node n m → (joined_parent n m v < v) ⊎ (joined_parent n m v ≡ all_groups n m)
-    card-parent =
+    card_parent : (v : ℕ) → v < oven_node n m → (joined_parent n m v < v) ⊎ (joined_parent n m v ≡ all_groups n m)
+    card_parent =
         each_part (cards_of n m) n (λ v. (joined_parent n m v < v) ⊎ (joined_parent n m v ≡ all_groups n m))
         (λ k file g h.
         let up = parent-card k file g h in
-        elim ((formed k file).card-parent g h) [
+        elim ((formed k file).card_parent g h) [
           | inl q ↦ inl (omega (arith, up, card-group k ((m k).net.parent g) (omega (arith, (formed k file).sides))))
           | inr q ↦ inr (up ∙ card-top k ((m k).net.parent g) (omega arith))
         ])
@@ -115,7 +115,7 @@ module _ (n : ℕ) (m : ℕ → Instance) where
     shop-below k file h small =
         let at : first_shop n m + (sum k (shops_of n m) + h) ≡ first_shop n m + sum k (shops_of n m) + h = omega arith in
         let up = ap (joined_parent n m) at ∙ parent-shop k file h small in
-        elim ((formed k file).shop-parent (cards_of n m k + h) (omega arith) (omega arith)) [
+        elim ((formed k file).shop_parent (cards_of n m k + h) (omega arith) (omega arith)) [
           | inl q ↦
               let on = shop-group k ((m k).net.parent (cards_of n m k + h)) (omega (arith, q.1)) in
               (omega (arith, up, on), omega (arith, up, on, q.0, q.1))
@@ -124,8 +124,8 @@ module _ (n : ℕ) (m : ℕ → Instance) where
               (omega (arith, up, on), omega (arith, up, on))
         ]
 
-    shop-parent : (v : ℕ) → oven_node n m ≤ v → v < all_groups n m → Shopped v ⊎ (joined_parent n m v ≡ all_groups n m + 1)
-    shop-parent v low l =
+    shop_parent : (v : ℕ) → oven_node n m ≤ v → v < all_groups n m → Shopped v ⊎ (joined_parent n m v ≡ all_groups n m + 1)
+    shop_parent v low l =
         elim (ℕ_discrete v (oven_node n m)) [
           | yes e ↦ inr (ap (joined_parent n m) e ∙ parent-oven)
           | no e ↦
@@ -140,7 +140,7 @@ module _ (n : ℕ) (m : ℕ → Instance) where
         each_part (rows_of n m) n (λ c. CardNode (joined_net n m) ((joined_net n m).card c))
         (λ k file c h.
         let up = row-card k file c h in
-        elim ((formed k file).card-node c h) [
+        elim ((formed k file).card_node c h) [
           | inl q ↦
               inl
               (omega (
@@ -157,7 +157,7 @@ module _ (n : ℕ) (m : ℕ → Instance) where
         each_part (rows_of n m) n (λ c. ShopNode (joined_net n m) ((joined_net n m).shop c))
         (λ k file c h.
         let up = row-shop k file c h in
-        elim ((formed k file).shop-node c h) [
+        elim ((formed k file).shop_node c h) [
           | inl q ↦
               let on = shop-group k ((m k).net.shop c) q.1 in
               inl (omega (arith, up, on), omega (arith, up, on, q.0, q.1, part_end (shops_of n m) n k file))
@@ -169,10 +169,10 @@ module _ (n : ℕ) (m : ℕ → Instance) where
     pub joined-formed : Formed (joined_net n m)
     joined-formed = record {
       sides = omega arith;
-      card-parent = card-parent;
-      shop-parent = shop-parent;
-      card-node = card-node;
-      shop-node = shop-node;
+      card_parent = card_parent;
+      shop_parent = shop_parent;
+      card_node = card-node;
+      shop_node = shop-node;
     }
 
     pub joined-down : Down (all_groups n m) (joined_parent n m)

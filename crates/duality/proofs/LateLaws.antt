@@ -287,11 +287,11 @@ module _ (net : Network) (formed : Formed net) (limit e : ℕ → ℕ) (bit : (c
                       | inl t ↦ absurd (omega (arith, earned-old, earned-next Y, s.0))
                       | inr t ↦
                           record {
-                            earned-keeps = omega (arith, earned-old, s.0);
-                            earned-one = omega (arith, earned-old, s.0);
-                            kept-loses = omega (arith, s.1, sum-suc X);
-                            kept-gains = omega (arith, t.1, sum-suc Y, new.choice.bits N (omega arith));
-                            kept-stays = λ h. omega (arith, s.1, sum-suc X);
+                            earned_keeps = omega (arith, earned-old, s.0);
+                            earned_one = omega (arith, earned-old, s.0);
+                            kept_loses = omega (arith, s.1, sum-suc X);
+                            kept_gains = omega (arith, t.1, sum-suc Y, new.choice.bits N (omega arith));
+                            kept_stays = λ h. omega (arith, s.1, sum-suc X);
                           }
                     ]
               ]
@@ -305,20 +305,20 @@ module _ (net : Network) (formed : Formed net) (limit e : ℕ → ℕ) (bit : (c
                       | inl t ↦ absurd (omega (arith, earned-old, earned-next Y, one z))
                       | inr t ↦
                           record {
-                            earned-keeps = omega (arith, earned-old);
-                            earned-one = omega (arith, earned-next Y, one z, t.0);
-                            kept-loses = rises (omega (arith, earned-next Y, one z, t.0)) z.0 z.1;
-                            kept-gains = omega (arith, t.1, sum-suc Y, z.0);
-                            kept-stays = λ h. absurd (omega (arith, earned-old));
+                            earned_keeps = omega (arith, earned-old);
+                            earned_one = omega (arith, earned-next Y, one z, t.0);
+                            kept_loses = rises (omega (arith, earned-next Y, one z, t.0)) z.0 z.1;
+                            kept_gains = omega (arith, t.1, sum-suc Y, z.0);
+                            kept_stays = λ h. absurd (omega (arith, earned-old));
                           }
                     ]
                 | inr s ↦
                     record {
-                      earned-keeps = omega (arith, earned-old, s.0);
-                      earned-one = omega (arith, earned-old, s.0);
-                      kept-loses = omega (arith, s.1, sum-suc X);
-                      kept-gains = stays (omega (arith, earned-old, s.0)) z.0 z.1;
-                      kept-stays = λ h. omega (arith, s.1, sum-suc X);
+                      earned_keeps = omega (arith, earned-old, s.0);
+                      earned_one = omega (arith, earned-old, s.0);
+                      kept_loses = omega (arith, s.1, sum-suc X);
+                      kept_gains = stays (omega (arith, earned-old, s.0)) z.0 z.1;
+                      kept_stays = λ h. omega (arith, s.1, sum-suc X);
                     }
               ]
             where

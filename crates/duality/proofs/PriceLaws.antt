@@ -27,10 +27,10 @@ use Rattle.duality.specs.Prices.{up_to, side_of, bill, left, cost}
 pub up_to-formed : (net : Network) → Formed net → (N : ℕ) → N ≤ net.rows → Formed (up_to net N)
 up_to-formed net f N h = record {
   sides = f.sides;
-  card-parent = f.card-parent;
-  shop-parent = f.shop-parent;
-  card-node = λ c l. f.card-node c (omega arith);
-  shop-node = λ c l. f.shop-node c (omega arith);
+  card_parent = f.card_parent;
+  shop_parent = f.shop_parent;
+  card_node = λ c l. f.card_node c (omega arith);
+  shop_node = λ c l. f.shop_node c (omega arith);
 }
 
 module _ (net : Network) (f : Formed net) where
@@ -59,10 +59,10 @@ module _ (net : Network) (f : Formed net) where
       ]
 
   pub card-side : (c : ℕ) → c < net.rows → side_of net (net.card c) ≡ 0
-  card-side c l = side-card (net.card c) (f.card-node c l)
+  card-side c l = side-card (net.card c) (f.card_node c l)
 
   pub shop-side : (c : ℕ) → c < net.rows → side_of net (net.shop c) ≡ 1
-  shop-side c l = side-shop (net.shop c) (f.shop-node c l)
+  shop-side c l = side-shop (net.shop c) (f.shop_node c l)
 
   -- of the two nodes of a row one is of side t
   pub row-sides :

@@ -85,10 +85,10 @@ module _ (i j : Instance) (long : Longer i j) where
     pub one_more_lem : AtMostOne (earned_in i) (kept_in i) (earned_in j) (kept_in j)
     unfolding earned kept
     one_more_lem =
-        words (earned_in i) (kept_in i) (earned_in j) (kept_in j) (omega (arith, counts.earned-keeps, same_old, next-earned))
-        (omega (arith, counts.earned-one, same_old, next-earned)) (omega (arith, counts.kept-loses, next-kept))
-        (omega (arith, counts.kept-gains, next-kept))
-        (λ e. omega (arith, counts.kept-stays (sym next-earned ∙ e ∙ same_old), next-kept))
+        words (earned_in i) (kept_in i) (earned_in j) (kept_in j) (omega (arith, counts.earned_keeps, same_old, next-earned))
+        (omega (arith, counts.earned_one, same_old, next-earned)) (omega (arith, counts.kept_loses, next-kept))
+        (omega (arith, counts.kept_gains, next-kept))
+        (λ e. omega (arith, counts.kept_stays (sym next-earned ∙ e ∙ same_old), next-kept))
       where
         counts : OneApart N (λ c. same (j.kind c) 1) old new
         counts =

@@ -197,8 +197,8 @@ module _ (net : Network) (formed : Formed net) where
     record Step (N : ℕ) (p q : ℕ → ℕ) : Type 0 where
       more : ℕ → ℕ
       less : ℕ → ℕ
-      more-rising : Rising net more
-      less-rising : Rising net less
+      more_rising : Rising net more
+      less_rising : Rising net less
       one_more : price more N ≡ price p N + 1
       one_less : price less N + 1 ≡ price q N
       together : (limit : ℕ → ℕ) → cost net N limit w less + cost net N limit w more ≤ cost net N limit w p + cost net N limit w q
@@ -226,8 +226,8 @@ module _ (net : Network) (formed : Formed net) where
         at t d l e = record {
           more = hi side t d p q;
           less = lo side t d p q;
-          more-rising = hi-rising net formed t d p q rp rq;
-          less-rising = lo-rising net formed t d p q rp rq;
+          more_rising = hi-rising net formed t d p q rp rq;
+          less_rising = lo-rising net formed t d p q rp rq;
           one_more = e;
           one_less = omega (arith, both-sum side t d p q (a N), both-sum side t d p q (b N));
           together = λ limit. cost-cross net formed t d p q rp rq N (omega arith) limit w l;
@@ -255,16 +255,16 @@ module _ (net : Network) (formed : Formed net) where
                     let t = step N m p q rp rq (omega arith) in
                     elim (ℕ_discrete (cost net N limit w t.more) (sum N (λ c. X₀ c * w c))) [
                       | yes e ↦
-                          approach N m limit X₀ X₁ room ch₀ ch₁ k t.more q t.more-rising rq e eq (omega (arith, t.one_more))
+                          approach N m limit X₀ X₁ room ch₀ ch₁ k t.more q t.more_rising rq e eq (omega (arith, t.one_more))
                       | no e ↦
-                          approach N m limit X₀ X₁ room ch₀ ch₁ k p t.less rp t.less-rising ep
+                          approach N m limit X₀ X₁ room ch₀ ch₁ k p t.less rp t.less_rising ep
                           (omega (
                             arith,
                             t.together limit,
                             t.one_less,
-                            under net formed N (omega arith) limit w t.more X₀ t.more-rising ch₀,
-                            under net formed N (omega arith) (without net limit N) w t.less X₁ t.less-rising ch₁,
-                            bill-less limit t.less N t.less-rising room,
+                            under net formed N (omega arith) limit w t.more X₀ t.more_rising ch₀,
+                            under net formed N (omega arith) (without net limit N) w t.less X₁ t.less_rising ch₁,
+                            bill-less limit t.less N t.less_rising room,
                             bill-less limit q N rq room,
                           ))
                           (omega (arith, t.one_less))

@@ -22,11 +22,11 @@ pub record Most (net : Network) (N : ℕ) (limit e X : ℕ → ℕ) : Type 0 whe
       (earned N e Y < earned N e X) ⊎ ((earned N e Y ≡ earned N e X) × (sum N Y ≤ sum N X))
 
 pub record OneApart (N : ℕ) (e X Y : ℕ → ℕ) : Type 0 where
-  pub earned-keeps : earned N e X ≤ earned (suc N) e Y
-  pub earned-one : earned (suc N) e Y ≤ earned N e X + 1
-  pub kept-loses : sum N X ≤ sum (suc N) Y + 1
-  pub kept-gains : sum (suc N) Y ≤ sum N X + 1
-  pub kept-stays : earned (suc N) e Y ≡ earned N e X → sum N X ≤ sum (suc N) Y
+  pub earned_keeps : earned N e X ≤ earned (suc N) e Y
+  pub earned_one : earned (suc N) e Y ≤ earned N e X + 1
+  pub kept_loses : sum N X ≤ sum (suc N) Y + 1
+  pub kept_gains : sum (suc N) Y ≤ sum N X + 1
+  pub kept_stays : earned (suc N) e Y ≡ earned N e X → sum N X ≤ sum (suc N) Y
 
 unfoldable pub heavy : ℕ → (ℕ → ℕ) → ℕ → ℕ
 heavy K e c = K * e c + 1

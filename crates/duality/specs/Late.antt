@@ -3,7 +3,7 @@
 --   Longer i j             the day j is the day i with one row more, at the end
 --   AtMostOne e k e' k'    of the earned and kept counts e and k before and e' and k' after: the earned count stays or rises by one; the
 --                          kept count falls by one, stays, or rises by one; and it falls only where the earned count rises
--- `one_more` (proofs/RowLaws.antt) is the theorem: the counts of two days so related are `AtMostOne`.
+-- `one_more_lem` (proofs/RowLaws.antt) is the theorem: the counts of two days so related are `AtMostOne`.
 use Rattle.std.specs.Prelude.{◌≡◌, ◌⊎◌, ℕ, ◌+◌, ◌<◌}
 use Rattle.theory.specs.Incidence.{size}
 use Rattle.theory.specs.Matroid.{row}

@@ -117,9 +117,9 @@ module _ {sh : Shape} {ch sheet t : List ℕ} (A : SourceLabelled sh ch sheet t)
     ready = state-ready A.based.state;
     free = omega (arith, A.based.all);
     lists = A.based.lists;
-    start-node = omega arith;
-    target-node = omega arith;
-    start-fresh = A.front.sink ∙ sym A.based.fresh;
+    start_node = omega arith;
+    target_node = omega arith;
+    start_fresh = A.front.sink ∙ sym A.based.fresh;
     dark = dark;
   }
     where

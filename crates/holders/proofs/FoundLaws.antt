@@ -73,13 +73,13 @@ module _
     seen : Seen r (kept_of ch) (spare_of sh t) F B₀
     unfolding F B₀
     seen = record {
-      from-source = λ u l h.
+      from_source = λ u l h.
           let e = F-is u h in
           elim (S.sides.named u l) [
             | inl z ↦ absurd (omega arith)
             | inr w ↦ elim w [ inl p ↦ p.1 | inr p ↦ absurd (omega (arith, p.0)) ]
           ];
-      to-sink = λ u l h.
+      to_sink = λ u l h.
           let e = B-is u h in
           elim (S.sides.named u l) [
             | inl z ↦ absurd (omega arith)

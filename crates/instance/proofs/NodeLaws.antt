@@ -18,19 +18,19 @@ use Rattle.claimfile.proofs.DayLaws.{parent-on, written_on, sound-formed}
 use Rattle.instance.specs.Meaning.{nodes}
 
 pub groups-few : {s : List ℕ} {l : Layout} → Sound s l → groups_of l ≤ 2 * max_groups
-groups-few sound = omega (arith, sound.cards-most, sound.shops-most)
+groups-few sound = omega (arith, sound.cards_most, sound.shops_most)
 
 module _ (s : List ℕ) (l : Layout) (sound : Sound s l) where
   pub node-small : (v : ℕ) → v < groups_of l → parent_of s l v < nodes
   node-small v h =
       elim (dec_lt v l.cards) [
         | yes k ↦
-            elim ((sound-formed s l sound).card-parent v k) [
+            elim ((sound-formed s l sound).card_parent v k) [
               | inl q ↦ omega (arith, groups-few sound)
               | inr q ↦ omega (arith, groups-few sound)
             ]
         | no k ↦
-            elim ((sound-formed s l sound).shop-parent v (omega arith) h) [
+            elim ((sound-formed s l sound).shop_parent v (omega arith) h) [
               | inl q ↦ omega (arith, q.1, groups-few sound)
               | inr q ↦ omega (arith, groups-few sound)
             ]
@@ -56,14 +56,14 @@ module _ (s : List ℕ) (l : Layout) (sound : Sound s l) where
 
   pub card-cell : (c : ℕ) → c < l.rows → card_node s l c < nodes
   card-cell c h =
-      elim ((sound-formed s l sound).card-node c h) [
-        | inl n ↦ omega (arith, sound.cards-most)
+      elim ((sound-formed s l sound).card_node c h) [
+        | inl n ↦ omega (arith, sound.cards_most)
         | inr n ↦ omega (arith, groups-few sound)
       ]
 
   pub shop-cell : (c : ℕ) → c < l.rows → shop_node s l c < nodes
   shop-cell c h =
-      elim ((sound-formed s l sound).shop-node c h) [
+      elim ((sound-formed s l sound).shop_node c h) [
         | inl n ↦ omega (arith, n.1, groups-few sound)
         | inr n ↦ omega (arith, groups-few sound)
       ]

@@ -55,7 +55,7 @@ module _ (day : ℕ) (b ls : List ℕ) (oven : ℕ) (bytes : (i : ℕ) → get_o
     sizes-few =
         let t = found.taken in
         let a = found.read.all in
-        (omega (arith, t.cards, a.cards-most), omega (arith, t.shops, a.shops-most), omega (arith, t.rows, a.rows-most))
+        (omega (arith, t.cards, a.cards_most), omega (arith, t.shops, a.shops_most), omega (arith, t.rows, a.rows_most))
 
     ovened-is : ovened z day ≡ layout_for day b ls oven
     ovened-is =

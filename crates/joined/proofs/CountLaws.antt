@@ -68,7 +68,7 @@ module _
     bits i h = omega (arith, rest-row i, M.bits i (omega (arith, few)))
 
     pub member-few : (y.rows ≤ max_rows) × (z.row ≤ max_rows)
-    member-few = (sound.rows-most, M.within)
+    member-few = (sound.rows_most, M.within)
 
     pub member-ready : Covers s y rest
     member-ready = record { sound = sound; long = omega (arith, ap length tail, length-drop z.row ch, M.long, few) }
@@ -141,7 +141,7 @@ module _ (day : ℕ) (b ls ch : List ℕ) where
       accepted = C.read.each k file;
       long = omega (arith, end, C.long);
       bits = λ i h. C.bits (z.row + i) (omega (arith, end));
-      within = omega (arith, end, C.read.all.rows-most);
+      within = omega (arith, end, C.read.all.rows_most);
       part = R.counts.part;
       few = R.counts.few;
     }
@@ -204,7 +204,7 @@ module _ (day : ℕ) (b ls : List ℕ) (oven : ℕ) (l : Layout) (J : Joins day 
         )
       where
         few : l.rows ≤ max_rows
-        few = omega (arith, all-rows, J.read.all.rows-most)
+        few = omega (arith, all-rows, J.read.all.rows_most)
 
     pub tally-counted :
         day < days → (a : Totals) → a.earned ≡ z.earned → a.kept ≡ z.kept → a.total ≡ l.rows * z.earned + z.kept →

@@ -149,7 +149,7 @@ module _ (n : ℕ) (s : ℕ → List ℕ) (l : ℕ → Layout) (oven today : ℕ
               | no q ↦
                   ap (λ p. day.above (sum k cards + g) p 0 (day.groups_of L))
                   (above-top g (parent_in 0 k g) (sum k cards) top (omega arith))
-                  ∙ above-top (sum k cards + g) top 0 (day.groups_of L) (omega (arith, inside, all.cards-most))
+                  ∙ above-top (sum k cards + g) top 0 (day.groups_of L) (omega (arith, inside, all.cards_most))
                   ∙ joined-groups
                   ∙ sym
                   (ap (card_up n m k) (above-top g (parent_in 0 k g) 0 (day.groups_of (l k)) (omega arith))
@@ -270,7 +270,7 @@ module _ (n : ℕ) (s : ℕ → List ℕ) (l : ℕ → Layout) (oven today : ℕ
         ∙ sym (join.row-card n m k file c h ∙ ap (card_up n m k) (card-node (s k) (l k) c))
       where
         inside : day.named_card (s k) (l k) c < cards k
-        inside = (all.sound k file).row-cards c h
+        inside = (all.sound k file).row_cards c h
 
         moved : (claim_in n d k c).card ≡ sum k cards + day.named_card (s k) (l k) c
         moved = omega arith
@@ -301,7 +301,7 @@ module _ (n : ℕ) (s : ℕ → List ℕ) (l : ℕ → Layout) (oven today : ℕ
         ∙ sym
         (join.row-shop n m k file c h
         ∙ ap (shop_up n m k) (shop-node (s k) (l k) c)
-        ∙ join.shop-group n m k ((l k).cards + day.named_shop (s k) (l k) c) (omega (arith, (all.sound k file).row-shops c h))
+        ∙ join.shop-group n m k ((l k).cards + day.named_shop (s k) (l k) c) (omega (arith, (all.sound k file).row_shops c h))
         ∙ omega (arith, shops-sum k))
 
     ----------------------------------------------------------------------------

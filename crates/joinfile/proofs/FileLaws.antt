@@ -140,8 +140,8 @@ module _ (n : ℕ) (d : ℕ → Contents) (oven : ℕ) where
   -- It is within range
 
   module _
-      (each : (k : ℕ) → k < n → Ranged (d k)) (cards-most : sum n cards ≤ max_groups) (shops-most : 1 + sum n shops ≤ max_groups)
-      (rows-most : sum n rows ≤ max_rows) (small : oven ≤ max_limit)
+      (each : (k : ℕ) → k < n → Ranged (d k)) (cards_most : sum n cards ≤ max_groups) (shops_most : 1 + sum n shops ≤ max_groups)
+      (rows_most : sum n rows ≤ max_rows) (small : oven ≤ max_limit)
     where
       fits : {at : ℕ} {x y : WeekGroup} → x ≡ y → SmallerOrTop at y.parent → SmallerOrTop at x.parent
       fits {at} e = subst (λ (z : WeekGroup). SmallerOrTop at z.parent) (sym e)
@@ -171,32 +171,32 @@ module _ (n : ℕ) (d : ℕ → Contents) (oven : ℕ) where
       pub joined-ranged : Ranged (joined_contents n d oven)
       joined-ranged = record {
         sides = λ side g. refl;
-        cards-most = cards-most;
-        shops-most = shops-most;
-        rows-most = rows-most;
+        cards_most = cards_most;
+        shops_most = shops_most;
+        rows_most = rows_most;
         parents = parents;
         limits = limits;
-        claim-cards =
+        claim_cards =
             each_part rows n (λ c. (D.claim c).card < sum n cards)
             (λ k file c h.
             omega (
               arith,
               ap (λ (x : Claim). x.card) (row-content k file c h),
-              (each k file).claim-cards c h,
+              (each k file).claim_cards c h,
               part_end cards n k file,
             ));
-        claim-shops =
+        claim_shops =
             each_part rows n (λ c. (D.claim c).shop < 1 + sum n shops)
             (λ k file c h.
             omega (
               arith,
               ap (λ (x : Claim). x.shop) (row-content k file c h),
-              (each k file).claim-shops c h,
+              (each k file).claim_shops c h,
               part_end shops n k file,
             ));
-        claim-kinds =
+        claim_kinds =
             each_part rows n (λ c. (D.claim c).kind ≤ 1)
-            (λ k file c h. omega (arith, ap (λ (x : Claim). x.kind) (row-content k file c h), (each k file).claim-kinds c h));
+            (λ k file c h. omega (arith, ap (λ (x : Claim). x.kind) (row-content k file c h), (each k file).claim_kinds c h));
       }
 
 --------------------------------------------------------------------------------
@@ -213,7 +213,7 @@ module _ (n : ℕ) (s : ℕ → List ℕ) (l : ℕ → Layout) (oven today : ℕ
   ranged =
       joined-ranged n (contents_of s l) oven
       (λ k h. contents-ranged (s k) (l k) (all.sound k h) (all.kinds k h) (all.bytes k))
-      all.cards-most all.shops-most all.rows-most (omega arith)
+      all.cards_most all.shops_most all.rows_most (omega arith)
 
   pub joined-accepted : reading (stored_week today) written ≡ Accepted laid
   joined-accepted = written-accepted (joined_contents n (contents_of s l) oven) ranged true today (λ e. absurd (true≢false e))

@@ -101,7 +101,7 @@ module _ (day : ℕ) (b ls : List ℕ) (sh : Shape) (t₀ : List ℕ) (G : JoinG
         cards = omega (arith, G.shape.groups, part_end (cards_of n m) n k file);
         shops = omega (arith, G.shape.groups, part_end (shops_of n m) n k file);
         rows = omega (arith, G.shape.rows, part_end (rows_of n m) n k file);
-        low = omega (arith, G.read.all.cards-most);
+        low = omega (arith, G.read.all.cards_most);
         over = inl (omega arith);
       };
     }

@@ -106,28 +106,28 @@ module _
     before-up k v (inl b) few =
         elim (dec_lt v (oven_node n m)) [
           | yes c ↦
-              elim (whole.card-parent v c) [
+              elim (whole.card_parent v c) [
                 | inl q ↦ inl (inl (omega arith))
                 | inr q ↦ inr (omega arith)
               ]
           | no c ↦
-              elim (whole.shop-parent v (omega arith) few) [
+              elim (whole.shop_parent v (omega arith) few) [
                 | inl q ↦ inl (inl (omega (arith, q.1)))
                 | inr q ↦ inr (omega arith)
               ]
         ]
     before-up k v (inr b) few =
-        elim (whole.shop-parent v b.0 few) [
+        elim (whole.shop_parent v b.0 few) [
           | inl q ↦ inl (inr (q.0, omega (arith, q.1, b.1)))
           | inr q ↦ inr (omega arith)
         ]
 
     module _ (k : ℕ) (file : k < n) (t w : List ℕ) (P : PutFile (s k) (l k) sh (spot_of n m k) t w) (F : Filled n m oven sh t k) where
       abbrev r : List ℕ
-      r = P.after-cards
+      r = P.after_cards
 
       abbrev u : List ℕ
-      u = P.after-shops
+      u = P.after_shops
 
       card-end : sum k (cards_of n m) + cards_of n m k ≤ oven_node n m
       card-end = part_end (cards_of n m) n k file
@@ -181,16 +181,16 @@ module _
       --------------------------------------------------------------------------
       -- The groups of the file
 
-      card-parent : (g : ℕ) → g < (l k).cards → parent_of sh w (card_at n m k g) ≡ joined_parent n m (card_at n m k g)
-      card-parent g h =
+      card_parent : (g : ℕ) → g < (l k).cards → parent_of sh w (card_at n m k g) ≡ joined_parent n m (card_at n m k g)
+      card_parent g h =
           ap (λ (x : ℕ → ℕ). x (card_at n m k g)) same-parents
           ∙ P.shops.parents.else (card_at n m k g) (inl (omega (arith, card-end)))
           ∙ P.cards.parents.here g h
           ∙ ap (λ G. node_above (s k) (l k) 0 (sum k (cards_of n m)) G g) shape.groups
           ∙ card-up n s l oven today all k file g h
 
-      shop-parent : (g : ℕ) → g < (l k).shops → parent_of sh w (shop_at n m k g) ≡ joined_parent n m (shop_at n m k g)
-      shop-parent g h =
+      shop_parent : (g : ℕ) → g < (l k).shops → parent_of sh w (shop_at n m k g) ≡ joined_parent n m (shop_at n m k g)
+      shop_parent g h =
           ap (λ (x : ℕ → ℕ). x (shop_at n m k g)) same-parents
           ∙ P.shops.parents.here g h
           ∙ shop-up n s l oven today all k file g h
@@ -217,7 +217,7 @@ module _
           (card-written n s l oven today all k file g h)
           ∙ lesser-cong (all_groups n m) (joined_parent n m (card_at n m k g)) (cut (card_at n m k g)) _ _
           (λ few.
-          elim (whole.card-parent (card_at n m k g) (omega (arith, card-end))) [
+          elim (whole.card_parent (card_at n m k g) (omega (arith, card-end))) [
             | inl q ↦ card-cell (joined_parent n m (card_at n m k g)) (omega (arith, card-end))
             | inr q ↦ absurd (omega arith)
           ])
@@ -277,7 +277,7 @@ module _
       pub filled-member : Filled n m oven sh w (suc k)
       filled-member = record {
         parents =
-            each-group (λ v. parent_of sh w v ≡ joined_parent n m v) (λ v b. old-parent v b ∙ F.parents v b) card-parent shop-parent;
+            each-group (λ v. parent_of sh w v ≡ joined_parent n m v) (λ v b. old-parent v b ∙ F.parents v b) card_parent shop_parent;
         limits = each-group (λ v. spare_of sh w v ≡ low w v) old-limit card-limit shop-limit;
         cards =
             each_row (λ c. card_of sh w c ≡ (joined_net n m).card c)
@@ -294,7 +294,7 @@ module _
             ∙ sym
             (join.row-shop n m k file c h
             ∙ ap (shop_up n m k) (shop-node (s k) (l k) c)
-            ∙ join.shop-group n m k ((l k).cards + day.named_shop (s k) (l k) c) (omega (arith, (all.sound k file).row-shops c h))
+            ∙ join.shop-group n m k ((l k).cards + day.named_shop (s k) (l k) c) (omega (arith, (all.sound k file).row_shops c h))
             ∙ omega arith));
         weights =
             each_row (λ c. weight_of sh w c ≡ priority.weight_of (sum n (rows_of n m)) (joined n m oven).kind c)

@@ -1,7 +1,7 @@
 -- Laws of what the labels tell.
 --   reads-mixed reads-source reads-sink reads-rest    one row, by its weight and the labels of its two nodes
 --   coding-none coding-next coding-all     row after row
---   code-mixed code-source code-sink code-rest     one row, from what was read
+--   code-mixed code-source code-sink code_rest     one row, from what was read
 use mathlib.Core.Path.{◌≡◌, refl, sym, ap, subst, ◌∙◌}
 use mathlib.Core.Logic.{◌≢◌, ⊎_elim}
 use mathlib.Core.List.{List}
@@ -76,20 +76,20 @@ module _
     (sh : Shape) (t : List ℕ) (c : ℕ) {w a b la lb : ℕ} (ew : w ≡ weight_of sh t c) (ea : a ≡ card_of sh t c) (eb : b ≡ shop_of sh t c)
     (ela : la ≡ label_of sh t a) (elb : lb ≡ label_of sh t b) (full : w ≡ sh.toll)
   where
-    at-card : label_of sh t (card_of sh t c) ≡ la
-    at-card = sym (ela ∙ ap (label_of sh t) ea)
+    at_card : label_of sh t (card_of sh t c) ≡ la
+    at_card = sym (ela ∙ ap (label_of sh t) ea)
 
-    at-shop : label_of sh t (shop_of sh t c) ≡ lb
-    at-shop = sym (elb ∙ ap (label_of sh t) eb)
+    at_shop : label_of sh t (shop_of sh t c) ≡ lb
+    at_shop = sym (elb ∙ ap (label_of sh t) eb)
 
     pub code-mixed : la ≢ lb → {x : ℕ} → x ≡ 3 → Reads sh t c x
-    code-mixed n is = rw is (reads-mixed (sym ew ∙ full) (λ e. n (sym at-card ∙ e ∙ at-shop)))
+    code-mixed n is = rw is (reads-mixed (sym ew ∙ full) (λ e. n (sym at_card ∙ e ∙ at_shop)))
 
     pub code-source : la ≡ lb → la ≡ from_source → {x : ℕ} → x ≡ 1 → Reads sh t c x
-    code-source e i is = rw is (reads-source (sym ew ∙ full) (at-card ∙ e ∙ sym at-shop) (at-card ∙ i))
+    code-source e i is = rw is (reads-source (sym ew ∙ full) (at_card ∙ e ∙ sym at_shop) (at_card ∙ i))
 
     pub code-sink : la ≡ lb → la ≡ to_sink → {x : ℕ} → x ≡ 2 → Reads sh t c x
-    code-sink e i is = rw is (reads-sink (sym ew ∙ full) (at-card ∙ e ∙ sym at-shop) (at-card ∙ i))
+    code-sink e i is = rw is (reads-sink (sym ew ∙ full) (at_card ∙ e ∙ sym at_shop) (at_card ∙ i))
 
-    pub code-rest : la ≢ from_source → la ≢ to_sink → {x : ℕ} → x ≡ 3 → Reads sh t c x
-    code-rest m n is = rw is (reads-rest (sym ew ∙ full) (λ e. m (sym at-card ∙ e)) (λ e. n (sym at-card ∙ e)))
+    pub code_rest : la ≢ from_source → la ≢ to_sink → {x : ℕ} → x ≡ 3 → Reads sh t c x
+    code_rest m n is = rw is (reads-rest (sym ew ∙ full) (λ e. m (sym at_card ∙ e)) (λ e. n (sym at_card ∙ e)))

@@ -101,7 +101,7 @@ module _ (K : ℕ) (f : Form) (s sel : List ℕ) (side : ℕ) (r : Ranked) (is :
         rank-rows l.rows (FitsSide d.net d.limit side) (row sel) _
             (means l h (ap (λ x. (ranked_numbers x).refusal) e)).rank,
         ap (λ x. (ranked_numbers x).rank) e,
-        (accords-in K f s l h).sound.rows-most,
+        (accords-in K f s l h).sound.rows_most,
       )
 
   answered : AnsweredIn K f s sel side r

@@ -164,7 +164,7 @@ module _ (r : Residual) (f : Formed r.net) {spare : ℕ → ℕ} {u j : ℕ} (h 
             ⊎_elim
             (λ w. omega (arith, w.1, unlisted-above, unlisted-group))
             (λ w. omega (arith, w, unlisted-above))
-            (f.shop-parent N.v (omega arith) unlisted-group)
+            (f.shop_parent N.v (omega arith) unlisted-group)
       ]
 
 -- no step leads from a node by an item of it that is not listed, and the source is not gone on from against the arcs
@@ -300,14 +300,14 @@ module _ (back : Bool) (r : Residual) (S spare : ℕ → ℕ) where
         took-reach : Reach back r S spare (pred_in b label') queue' (h + 1) (n + 1)
         took-reach =
             reach-more R l (omega arith) at T.node T.arc (ap (arc_in b) T.new ∙ arc-in-fresh b)
-            (pred-puts b label label' T.v e T.small T.label-puts) T.queue-puts
+            (pred-puts b label label' T.v e T.small T.label_puts) T.queue_puts
 
         pub took-grew : Grew back r S spare b label queue n label' queue' (h + 1) n'
         took-grew =
             rw T.more (record {
               grow = omega arith;
-              keep = λ i m. T.queue-puts.else i (λ k. omega arith);
-              spread = spread-puts b label label' T.v e T.new T.small T.label-puts;
+              keep = λ i m. T.queue_puts.else i (λ k. omega arith);
+              spread = spread-puts b label label' T.v e T.new T.small T.label_puts;
               reach = took-reach;
             })
 
@@ -317,9 +317,9 @@ module _ (back : Bool) (r : Residual) (S spare : ℕ → ℕ) where
     passed-grew {label} {n = n} R T =
         rw (T.label_same, T.same) (record {
           grow = le_refl n;
-          keep = T.queue-same;
+          keep = T.queue_same;
           spread = spread_none b label;
-          reach = reach-queue R T.queue-same;
+          reach = reach-queue R T.queue_same;
         })
 
   pub reach-first :

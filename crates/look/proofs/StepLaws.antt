@@ -3,7 +3,7 @@
 --   reached-of             a node is reached
 --   only-most label-fits tried_of    a node is looked at
 --   looking-most looked-tried pick_yes pick_no looked-by looked-as up-node ends-below    one arc
---   item-down item-row ends-card ends-shop at-shop    an item, as looking along it asks
+--   item-down item-row ends-card ends-shop at_shop    an item, as looking along it asks
 use mathlib.Core.Path.{◌≡◌, sym, ap, subst, ◌∙◌}
 use mathlib.Core.Logic.{inl, inr, ⊎_elim, ◌⊎◌, ◌≢◌}
 use mathlib.Core.Bool.{Bool, true, false, ◌&&◌, true≢false, not}
@@ -139,15 +139,15 @@ module _ {sh : Shape} {ch sheet t : List ℕ} {n : ℕ} where
                 arc = L.yes w.0.0;
                 new = w.0.1;
                 small = m;
-                label-puts = w.1.0;
-                queue-puts = T.queue;
+                label_puts = w.1.0;
+                queue_puts = T.queue;
                 more = w.1.1;
               })
           | inr w ↦
               inr (record {
                 none = λ x A z. let o = L.only x A in w.0 o.0 (ap (label_of sh t) (sym o.1) ∙ z);
                 label_same = w.1.0;
-                queue-same = λ i k. T.queue.else i (λ d. omega arith);
+                queue_same = λ i k. T.queue.else i (λ d. omega arith);
                 same = w.1.1;
               })
         ];
@@ -204,5 +204,5 @@ module _ {sh : Shape} {sheet t : List ℕ} {u j : ℕ} (A : AtItem sh sheet t u 
     pub ends-shop : {back : Bool} {x : ℕ} → x ≡ pick (not back) 1 0 → Ends sh back t j b a x
     ends-shop i = record { row = l; ends = inr (i, (sb, ca)) }
 
-    pub at-shop : a ≢ u → b ≡ u
-    at-shop n = sb ∙ item-shop (residual_of sh sheet t) u j A.item l (λ z. n (ca ∙ z))
+    pub at_shop : a ≢ u → b ≡ u
+    at_shop n = sb ∙ item-shop (residual_of sh sheet t) u j A.item l (λ z. n (ca ∙ z))

@@ -64,12 +64,12 @@ module _ (back : Bool) (r : Residual) (S spare : ℕ → ℕ) where
       pub arc : Step back r S spare e u v
       pub new : label v ≡ b
       pub small : e + 1 < span
-      pub label-puts : Puts label label' v (b + e + 1)
-      pub queue-puts : Puts queue queue' n v
+      pub label_puts : Puts label label' v (b + e + 1)
+      pub queue_puts : Puts queue queue' n v
       pub more : n' ≡ n + 1
 
     pub record Passed (label queue : ℕ → ℕ) (n : ℕ) (label' queue' : ℕ → ℕ) (n' u e : ℕ) : Type 0 where
       pub none : (v : ℕ) → Step back r S spare e u v → label v ≢ b
       pub label_same : label' ≡ label
-      pub queue-same : (i : ℕ) → i < n → queue' i ≡ queue i
+      pub queue_same : (i : ℕ) → i < n → queue' i ≡ queue i
       pub same : n' ≡ n

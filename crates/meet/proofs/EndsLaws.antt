@@ -127,14 +127,14 @@ module _
     (T : Took back r S spare f label queue label' queue' n u e)
   where
     lit : 0 < seen_in back f label' T.v
-    lit = omega (arith, ap (arc_in (base back f)) T.label-puts.here, arc-in-more (base back f) e T.small)
+    lit = omega (arith, ap (arc_in (base back f)) T.label_puts.here, arc-in-more (base back f) e T.small)
 
     pub spread-took : Spread back f label label'
     spread-took x =
         ⊎_elim
         (λ w. inr (ap label w.0 ∙ T.new, rw w.0 lit))
         (λ w. inl w.1)
-        (puts-at T.label-puts x)
+        (puts-at T.label_puts x)
 
     pub took-free : (x : ℕ) → x ≡ T.v → Free back r S spare f label' x
     took-free x e = (
@@ -149,7 +149,7 @@ module _
         seen_apart f label' x back (rw w.0 lit)
         ∙ sym (seen-fresh f label x (not back) (ap label w.0 ∙ T.new)))
         (λ w. ap (arc_in (base (not back) f)) w.1)
-        (puts-at T.label-puts x)
+        (puts-at T.label_puts x)
 
     module _ {m : ℕ} (B : Both back r S spare f label queue n m) where
       low : n < r.net.groups + 2
@@ -161,16 +161,16 @@ module _
             let at = B.mine.spot u node seen in
             reach-later back r S spare (omega arith)
             (reach-more back r S spare B.mine at.1 at.1 at.2 T.node T.arc (seen-fresh f label T.v back T.new)
-            (pred-puts (base back f) label label' T.v e T.small T.label-puts)
-            (puts-spot r.net.groups back low T.queue-puts));
+            (pred-puts (base back f) label label' T.v e T.small T.label_puts)
+            (puts-spot r.net.groups back low T.queue_puts));
         other =
             reach-queue (not back) r S spare (reach-pred others B.other)
-            (λ i c. T.queue-puts.else (spot r.net.groups (not back) i) (spot-apart r.net.groups back i n m c (both-few B)));
+            (λ i c. T.queue_puts.else (spot r.net.groups (not back) i) (spot-apart r.net.groups back i n m c (both-few B)));
       }
 
       pub took-keep : (i : ℕ) → i < n → stands_in back r.net.groups queue' i ≡ stands_in back r.net.groups queue i
-      took-keep i c = (puts-spot r.net.groups back low T.queue-puts).else i (λ e. omega arith)
+      took-keep i c = (puts-spot r.net.groups back low T.queue_puts).else i (λ e. omega arith)
 
       pub took-rest :
           (i : ℕ) → i < m → stands_in (not back) r.net.groups queue' i ≡ stands_in (not back) r.net.groups queue i
-      took-rest i c = T.queue-puts.else (spot r.net.groups (not back) i) (spot-apart r.net.groups back i n m c (both-few B))
+      took-rest i c = T.queue_puts.else (spot r.net.groups (not back) i) (spot-apart r.net.groups back i n m c (both-few B))

@@ -107,11 +107,11 @@ module _
       mine =
           reach-later false (residual_of sh sheet t) (kept_of ch) (spare_of sh t) (omega arith)
           (reach-first false (residual_of sh sheet t) (kept_of ch) (spare_of sh t) (seen_by sh false t') (queue_by sh false t') start
-          Q.start-node (omega (arith, lit false)) (dark false) first-place);
+          Q.start_node (omega (arith, lit false)) (dark false) first-place);
       other =
           reach-later true (residual_of sh sheet t) (kept_of ch) (spare_of sh t) (omega arith)
           (reach-first true (residual_of sh sheet t) (kept_of ch) (spare_of sh t) (seen_by sh true t') (queue_by sh true t') target
-          Q.target-node (omega (arith, lit true)) (dark true) last-place);
+          Q.target_node (omega (arith, lit true)) (dark true) last-place);
     }
 
     pub held_start : Held sh ch sheet t t' start target 1 1
@@ -125,10 +125,10 @@ module _
       last = lit true;
       reaches = λ v.
           elim (ℕ_discrete v start) [
-            | yes e ↦ inr (ap (label_of sh t) e ∙ Q.start-fresh, (false, rw e (omega (arith, lit false))))
+            | yes e ↦ inr (ap (label_of sh t) e ∙ Q.start_fresh, (false, rw e (omega (arith, lit false))))
             | no p ↦
                 elim (ℕ_discrete v target) [
-                  | yes e ↦ inr (ap (label_of sh t) e ∙ Q.target-fresh, (true, rw e (omega (arith, lit true))))
+                  | yes e ↦ inr (ap (label_of sh t) e ∙ Q.target_fresh, (true, rw e (omega (arith, lit true))))
                   | no q ↦ inl (elsewhere v p q)
                 ]
           ];
@@ -139,8 +139,8 @@ module _
 
 pub record Going (sh : Shape) (ch sheet t₀ t : List ℕ) (start target n m h k hit : ℕ) : Type 0 where
   pub held : Held sh ch sheet t₀ t start target n m
-  pub out-high : h ≤ n
-  pub in-high : k ≤ m
+  pub out_high : h ≤ n
+  pub in_high : k ≤ m
   pub joins : 0 < hit → Joint sh ch sheet t₀ t (hit - 1)
   pub done :
       hit ≡ 0 → (way : Bool) (i : ℕ) → i < pick way k h →
@@ -162,8 +162,8 @@ module _ {sh : Shape} {ch sheet t₀ : List ℕ} {start target : ℕ} (Q : Asked
   pub going-first : {t : List ℕ} → Held sh ch sheet t₀ t start target 1 1 → Going sh ch sheet t₀ t start target 1 1 0 0 0
   going-first H = record {
     held = H;
-    out-high = omega arith;
-    in-high = omega arith;
+    out_high = omega arith;
+    in_high = omega arith;
     joins = λ l. absurd (omega arith);
     done = λ z way i l. absurd (none way l);
   }
@@ -284,8 +284,8 @@ module _ {sh : Shape} {ch sheet t₀ : List ℕ} {start target : ℕ} (Q : Asked
     going-next-out {t'} {u} {n'} {hit} l e X = record {
       held =
           held_next false X (both-next false X) (X.keep 0 (omega arith)) (X.rest 0 G.held.both.other.some);
-      out-high = omega (arith, X.grow);
-      in-high = G.in-high;
+      out_high = omega (arith, X.grow);
+      in_high = G.in_high;
       joins = λ some.
           let J = joint-of false X some in
           record { u = u; v = J.v; from = reached-still false X (rw e (G.held.both.mine.seen h l)); to = J.met; arc = J.arc };
@@ -295,7 +295,7 @@ module _ {sh : Shape} {ch sheet t₀ : List ℕ} {start target : ℕ} (Q : Asked
         both :
             hit ≡ 0 → (way : Bool) (i : ℕ) → i < pick way k (h + 1) →
             Done way r (kept_of ch) (spare_of sh t₀) sh.fresh (label_of sh t') (queue_by sh way t' i)
-        both z true = other-done false X G.in-high (G.done refl true)
+        both z true = other-done false X G.in_high (G.done refl true)
         both z false = mine-done false X z l e (G.done refl false)
 
     pub going-next-in :
@@ -304,8 +304,8 @@ module _ {sh : Shape} {ch sheet t₀ : List ℕ} {start target : ℕ} (Q : Asked
     going-next-in {t'} {u} {m'} {hit} l e X = record {
       held =
           held_next true X (both-swap true (both-next true X)) (X.rest 0 G.held.both.mine.some) (X.keep 0 (omega arith));
-      out-high = G.out-high;
-      in-high = omega (arith, X.grow);
+      out_high = G.out_high;
+      in_high = omega (arith, X.grow);
       joins = λ some.
           let J = joint-of true X some in
           record { u = J.v; v = u; from = J.met; to = reached-still true X (rw e (G.held.both.other.seen k l)); arc = J.arc };
@@ -316,7 +316,7 @@ module _ {sh : Shape} {ch sheet t₀ : List ℕ} {start target : ℕ} (Q : Asked
             hit ≡ 0 → (way : Bool) (i : ℕ) → i < pick way (k + 1) h →
             Done way r (kept_of ch) (spare_of sh t₀) sh.fresh (label_of sh t') (queue_by sh way t' i)
         both z true = mine-done true X z l e (G.done refl true)
-        both z false = other-done true X G.out-high (G.done refl false)
+        both z false = other-done true X G.out_high (G.done refl false)
 
   -- one end has no node left, or both have met
   module _ {t : List ℕ} {n m h k hit : ℕ} (G : Going sh ch sheet t₀ t start target n m h k hit) where

@@ -93,7 +93,7 @@ module _ {sh : Shape} {back : Bool} {ch sheet t : List ℕ} {u v e n : ℕ} {b :
           | inl w ↦
               let R = w.0 in
               inl (
-                (R.only, record { v = v; node = l; arc = L.yes leads; new = R.new; small = m; label-puts = R.label; queue-puts = R.queue }),
+                (R.only, record { v = v; node = l; arc = L.yes leads; new = R.new; small = m; label_puts = R.label; queue_puts = R.queue }),
                 (R.more, w.1),
               )
           | inr w ↦
@@ -159,11 +159,11 @@ module _
     (l : j < sh.rows)
   where
     pub side-shop : b ≡ true → card_of sh t j ≢ u
-    side-shop shops e = sides-differ (net_of sh t) F.sides (F.card-node j l) (D.yes shops) e
+    side-shop shops e = sides-differ (net_of sh t) F.sides (F.card_node j l) (D.yes shops) e
 
     pub side-card : b ≡ false → card_of sh t j ≡ u
     side-card cards =
-        ⊎_elim (λ e. e) (λ e. absurd (sides-differ (net_of sh t) F.sides (D.no cards) (F.shop-node j l) (sym e)))
+        ⊎_elim (λ e. e) (λ e. absurd (sides-differ (net_of sh t) F.sides (D.no cards) (F.shop_node j l) (sym e)))
         (row_of (residual_of sh sheet t) l A.item).at
 
     shop-here : b ≡ true → shop_of sh t j ≡ u

@@ -47,8 +47,8 @@ module _ (back : Bool) (r : Residual) (S spare : ℕ → ℕ) (f : ℕ) (label :
     pub arc : Step back r S spare e u v
     pub new : label v ≡ f
     pub small : e + 1 < span
-    pub label-puts : Puts label label' v (base back f + e + 1)
-    pub queue-puts : Puts queue queue' (spot r.net.groups back n) v
+    pub label_puts : Puts label label' v (base back f + e + 1)
+    pub queue_puts : Puts queue queue' (spot r.net.groups back n) v
 
   pub record Joins (u e : ℕ) : Type 0 where
     pub v : ℕ

@@ -130,11 +130,11 @@ module _ (sh : Shape) (ch sheet t : List ℕ) where
     pub free : sh.free ≤ sh.rows
     pub lists : Lists sh sheet t
     pub paid : sh.toll ≡ 0
-    pub start-node : start < sh.groups + 2
-    pub target-node : target < sh.groups + 2
+    pub start_node : start < sh.groups + 2
+    pub target_node : target < sh.groups + 2
     pub apart : start ≢ target
-    pub start-fresh : label_of sh t start ≡ sh.fresh
-    pub target-fresh : label_of sh t target ≡ sh.fresh
+    pub start_fresh : label_of sh t start ≡ sh.fresh
+    pub target_fresh : label_of sh t target ≡ sh.fresh
     pub dark : (back : Bool) (v : ℕ) → v < sh.groups + 2 → seen_by sh back t v ≡ 0
 
   pub record Joint (t' : List ℕ) (e : ℕ) : Type 0 where

@@ -115,9 +115,9 @@ module _ (day : ℕ) (b ls : List ℕ) (bytes : (i : ℕ) → get_or b i 0 < 256
                   bytes = part_bytes b ls bytes;
                   today = λ k h. accepted-day (new_week day) (member_of b ls k) (layouts_of day b ls k) (t.each k h);
                   new = λ k h. new-limits (new_week day) (member_of b ls k) (layouts_of day b ls k) (t.each k h) refl;
-                  cards-most = omega (arith, t.cards, fits.0);
-                  shops-most = omega (arith, t.shops, fits.1);
-                  rows-most = omega (arith, t.rows, fits.2);
+                  cards_most = omega (arith, t.cards, fits.0);
+                  shops_most = omega (arith, t.shops, fits.1);
+                  rows_most = omega (arith, t.rows, fits.2);
                 };
               };
               taken =

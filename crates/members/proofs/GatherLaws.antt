@@ -192,9 +192,9 @@ module _ (day : ℕ) (b ls : List ℕ) where
       let sound : (k : ℕ) → k < n → Sound (member_of b ls k) (layouts_of day b ls k) =
       λ k h. accepted-sound (new_week day) (member_of b ls k) (layouts_of day b ls k) (t.each k h) in
       record {
-        cards = omega (arith, t.cards, sum_bound n 256 {f = λ k. (layouts_of day b ls k).cards} (λ k h. (sound k h).cards-most));
-        shops = omega (arith, t.shops, sum_bound n 256 {f = λ k. (layouts_of day b ls k).shops} (λ k h. (sound k h).shops-most));
-        rows = omega (arith, t.rows, sum_bound n 512 {f = λ k. (layouts_of day b ls k).rows} (λ k h. (sound k h).rows-most));
+        cards = omega (arith, t.cards, sum_bound n 256 {f = λ k. (layouts_of day b ls k).cards} (λ k h. (sound k h).cards_most));
+        shops = omega (arith, t.shops, sum_bound n 256 {f = λ k. (layouts_of day b ls k).shops} (λ k h. (sound k h).shops_most));
+        rows = omega (arith, t.rows, sum_bound n 512 {f = λ k. (layouts_of day b ls k).rows} (λ k h. (sound k h).rows_most));
       }
 
 --------------------------------------------------------------------------------

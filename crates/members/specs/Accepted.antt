@@ -18,9 +18,9 @@ pub record Members (n : ℕ) (s : ℕ → List ℕ) (l : ℕ → Layout) (day : 
   pub bytes : (k i : ℕ) → get_or (s k) i 0 < 256
   pub today : (k : ℕ) → k < n → (l k).day ≡ day
   pub new : (k : ℕ) → k < n → (v : ℕ) → v < groups_of (l k) → limit_of (s k) (l k) v ≡ written_of (s k) (l k) v
-  pub cards-most : sum n (λ k. (l k).cards) ≤ max_groups
-  pub shops-most : 1 + sum n (λ k. (l k).shops) ≤ max_groups
-  pub rows-most : sum n (λ k. (l k).rows) ≤ max_rows
+  pub cards_most : sum n (λ k. (l k).cards) ≤ max_groups
+  pub shops_most : 1 + sum n (λ k. (l k).shops) ≤ max_groups
+  pub rows_most : sum n (λ k. (l k).rows) ≤ max_rows
 
 pub record AllRead (day : ℕ) (b ls : List ℕ) : Type 0 where
   pub fit : lengths_fit (length b) ls ≡ true

@@ -77,7 +77,7 @@ module _
 pub parted-told :
     {sh : Shape} {t : List ℕ} {i a b x y : ℕ} → a ≡ card_of sh t i → b ≡ shop_of sh t i → x ≡ label_of sh t a →
     y ≡ label_of sh t b → Parted sh t i (not (eqb x y))
-parted-told {sh} {t} {x = x} {y} card shop at-card at-shop = record {
+parted-told {sh} {t} {x = x} {y} card shop at_card at_shop = record {
   yes = λ e same.
       eqb-false x y (not-true (eqb x y) e)
       (omega (arith, ap (label_of sh t) card, ap (label_of sh t) shop));

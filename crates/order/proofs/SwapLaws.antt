@@ -113,11 +113,11 @@ module _ {sh : Shape} {ch sheet t : List ℕ} {i a b next : ℕ} (W : Swapping s
     free = omega (arith, W.above, at.row);
     lists = W.lists;
     paid = at.none;
-    start-node = b-node;
-    target-node = a-node;
+    start_node = b-node;
+    target_node = a-node;
     apart = λ z. sides_apart (net_of sh t) at.state.formed i at.row (sym W.shop ∙ z ∙ W.card);
-    start-fresh = b-fresh;
-    target-fresh = W.mine;
+    start_fresh = b-fresh;
+    target_fresh = W.mine;
     dark = dark;
   }
 

@@ -36,7 +36,7 @@ pub priced-flip :
     {r : Residual} {S spare S' spare' : ℕ → ℕ} {u v : ℕ} → Priced r S → Flipped r S spare S' spare' u v → Priced r S'
 priced-flip {r} P F = record {
   small = P.small;
-  small-toll = P.small-toll;
+  small_toll = P.small_toll;
   rises = P.rises;
   bits = flip-selection r F P.bits;
   out = flip-out r F P.out;

@@ -21,7 +21,7 @@ state-ready I = record {
   formed = I.formed;
   priced = record {
     small = λ v. omega (arith, I.range v);
-    small-toll = omega (arith, I.range 0);
+    small_toll = omega (arith, I.range 0);
     rises = I.level.rising.up;
     bits = I.level.choice.bits;
     out = I.level.out;
@@ -37,7 +37,7 @@ state-linkable I =
       sheets = R.buffers.sheets;
       formed = R.formed;
       small = R.priced.small;
-      small-toll = R.priced.small-toll;
+      small_toll = R.priced.small_toll;
     }
 
 module _ (sh : Shape) (ch t : List ℕ) where

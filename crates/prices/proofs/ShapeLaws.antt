@@ -49,9 +49,9 @@ module _ (r : Residual) (m : ℕ) where
       Linked (freed r m) spare first child card shop lo
   linked-freed {first = first} {child} {card} {shop} {lo} L = record {
     at_first = λ u l. least-freed u lo (first u) (L.at_first u l);
-    at-child = λ v l h e. least-freed (r.net.parent v) (r.net.rows + v + 1) (child v) (L.at-child v l h e);
-    at-card = λ c l h e. least-freed (r.net.card c) (c + 1) (card c) (L.at-card c l h e);
-    at-shop = λ c l h e. least-freed (r.net.shop c) (c + 1) (shop c) (L.at-shop c l h e);
+    at_child = λ v l h e. least-freed (r.net.parent v) (r.net.rows + v + 1) (child v) (L.at_child v l h e);
+    at_card = λ c l h e. least-freed (r.net.card c) (c + 1) (card c) (L.at_card c l h e);
+    at_shop = λ c l h e. least-freed (r.net.shop c) (c + 1) (shop c) (L.at_shop c l h e);
   }
 
 module _ (sh : Shape) (free fresh : ℕ) where

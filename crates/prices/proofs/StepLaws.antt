@@ -98,8 +98,8 @@ module _ {r : Residual} (S spare : ℕ → ℕ) (f : Formed r.net) where
     pub along-down : Along r S spare v a v
     along-down = record {
       ends = λ x y k A. let W = arc-down r S spare v x y k A l in (W.tail ∙ sym is, W.head);
-      from-node = omega (arith, parent-below r.net f v l);
-      to-node = omega arith;
+      from_node = omega (arith, parent-below r.net f v l);
+      to_node = omega arith;
     }
 
     pub along-up : Along r S spare (r.net.groups + r.net.rows + v) v a
@@ -108,8 +108,8 @@ module _ {r : Residual} (S spare : ℕ → ℕ) (f : Formed r.net) where
           let W = arc-up r S spare (r.net.groups + r.net.rows + v) x y k A (omega arith) in
           let i : x ≡ v = omega (arith, W.code) in
           (i, W.head ∙ ap r.net.parent i ∙ sym is);
-      from-node = omega arith;
-      to-node = omega (arith, parent-below r.net f v l);
+      from_node = omega arith;
+      to_node = omega (arith, parent-below r.net f v l);
     }
 
   -- row c leads from its shop node where it is kept, and from its card node where it is left out
@@ -129,10 +129,10 @@ module _ {r : Residual} (S spare : ℕ → ℕ) (f : Formed r.net) where
         let y = eq-eqb x 1 (omega (arith, O.byte, ap S i)) in
         (O.tail ∙ ap r.net.shop i ∙ sym q ∙ sym (F.0 y), O.head ∙ ap r.net.card i ∙ sym p ∙ sym (T.0 y)))
         (arc-row r S spare (r.net.groups + c) u v k A (omega arith) (omega arith));
-    from-node =
+    from_node =
         ⊎_elim (λ h. omega (arith, F.0 h, shop-below r.net f c l)) (λ h. omega (arith, F.1 h, card-below r.net f c l))
         (either (eqb x 1));
-    to-node =
+    to_node =
         ⊎_elim (λ h. omega (arith, T.0 h, card-below r.net f c l)) (λ h. omega (arith, T.1 h, shop-below r.net f c l))
         (either (eqb x 1));
   }

@@ -36,8 +36,8 @@ module _ (r : Residual) (S spare : ℕ → ℕ) where
 
   pub record Along (e a b : ℕ) : Type 0 where
     pub ends : (u v k : ℕ) → Arc r S spare e u v k → (u ≡ a) × (v ≡ b)
-    pub from-node : a < r.net.groups + 2
-    pub to-node : b < r.net.groups + 2
+    pub from_node : a < r.net.groups + 2
+    pub to_node : b < r.net.groups + 2
 
 abbrev pub GroupsOf : Shape → List ℕ → List ℕ → List ℕ → ℕ → ℕ → ℕ → ℕ → Type 0
 GroupsOf sh ch sheet t lo hi most k =

@@ -46,7 +46,7 @@ use Rattle.claimfile.specs.declared.Claim.{Claim}
 use Rattle.theory.proofs.TestLaws.{either}
 use Rattle.claimfile.proofs.WidthLaws.{width-most, width-split, column-small}
 use Rattle.reader.proofs.FileLaws.{never, none_above_lem, group-bad, group-top, group-stored, group-above}
-use Rattle.reader.proofs.FileLaws.{record-cut, record-fault, next-record, records-pass}
+use Rattle.reader.proofs.FileLaws.{record_cut, record_fault, next-record, records-pass}
 use Rattle.reader.proofs.FileLaws.{count-fine, section-fault, section-fits}
 use Rattle.reader.proofs.FileLaws.{cards-fault, shops-fault, claims-fault, trailing, accepted}
 
@@ -73,10 +73,10 @@ module _ (size start width : ℕ) (fault : ℕ → Checked) (count : ℕ) where
   abbrev from : ℕ → Checked
   from k = records_from size start width fault k (count - k)
 
-  record-fine : (k : ℕ) → k < count → from k ≡ Fine → FineRecord size start width fault k × (from (k + 1) ≡ Fine)
-  record-fine k l e =
+  record_fine : (k : ℕ) → k < count → from k ≡ Fine → FineRecord size start width fault k × (from (k + 1) ≡ Fine)
+  record_fine k l e =
       elim (dec_lt size (start + width * k + width)) [
-        | yes short ↦ never _ _ e (record-cut size start width fault count k l short)
+        | yes short ↦ never _ _ e (record_cut size start width fault count k l short)
         | no h ↦ judged (fault k) refl (omega arith)
       ]
     where
@@ -85,15 +85,15 @@ module _ (size start width : ℕ) (fault : ℕ → Checked) (count : ℕ) where
           FineRecord size start width fault k × (from (k + 1) ≡ Fine)
       judged Fine p whole =
           (record { whole = whole; fine = p }, sym (next-record size start width fault count k l whole p) ∙ e)
-      judged (Fault why) p whole = never _ _ e (record-fault size start width fault count k l whole why p)
+      judged (Fault why) p whole = never _ _ e (record_fault size start width fault count k l whole why p)
 
   records-fine :
       records_from size start width fault 0 count ≡ Fine → (k : ℕ) → k < count → FineRecord size start width fault k
-  records-fine begin k l = (record-fine k l (fine k (omega arith))).0
+  records-fine begin k l = (record_fine k l (fine k (omega arith))).0
     where
       fine : (k : ℕ) → k ≤ count → from k ≡ Fine
       fine zero h = simp sub-zero begin
-      fine (suc k) h = rw (← add-one) (record-fine k (omega arith) (fine k (omega arith))).1
+      fine (suc k) h = rw (← add-one) (record_fine k (omega arith) (fine k (omega arith))).1
 
 -- the records end within the bytes where each of them does
 all_whole :
@@ -350,25 +350,25 @@ module _ (K : ℕ) (f : Form) (s : List ℕ) (cards card_at next shops shop_at a
         below = below;
       }
     where
-      of-cards : Taken s 0 max_groups (group_width f.week) (GroupFits f s) cards card_at next
-      of-cards = section-read s 0 cards card_at next f cards-are
+      of_cards : Taken s 0 max_groups (group_width f.week) (GroupFits f s) cards card_at next
+      of_cards = section-read s 0 cards card_at next f cards-are
 
-      of-shops : Taken s next max_groups (group_width f.week) (GroupFits f s) shops shop_at after
-      of-shops = section-read s next shops shop_at after f shops-are
+      of_shops : Taken s next max_groups (group_width f.week) (GroupFits f s) shops shop_at after
+      of_shops = section-read s next shops shop_at after f shops-are
 
       sections : (side : ℕ) → side < 2 → section_on f s side ≡ section_in l side
-      sections zero few = cards-are ∙ ap (Read cards card_at) (omega (arith, of-cards))
+      sections zero few = cards-are ∙ ap (Read cards card_at) (omega (arith, of_cards))
       sections (suc zero) few =
-          ap (λ x. section_at f s (behind x)) cards-are ∙ shops-are ∙ ap (Read shops shop_at) (omega (arith, of-shops))
+          ap (λ x. section_at f s (behind x)) cards-are ∙ shops-are ∙ ap (Read shops shop_at) (omega (arith, of_shops))
       sections (suc (suc n)) few = absurd (omega arith)
 
       groups : (side g : ℕ) → g < count_of l side → FineGroup f s (start_of l side) g
-      groups zero = of-cards.each
-      groups (suc n) = of-shops.each
+      groups zero = of_cards.each
+      groups (suc n) = of_shops.each
 
       below : f.stored ≡ false → NoneAbove s l
-      below new d zero g m small = (of-cards.each g m).limits new small (column_of f.week d) (column-small f.week d)
-      below new d (suc n) g m small = (of-shops.each g m).limits new small (column_of f.week d) (column-small f.week d)
+      below new d zero g m small = (of_cards.each g m).limits new small (column_of f.week d) (column-small f.week d)
+      below new d (suc n) g m small = (of_shops.each g m).limits new small (column_of f.week d) (column-small f.week d)
 
       counted : word s (row_at - 2) ≡ rows
       counted =
@@ -377,16 +377,16 @@ module _ (K : ℕ) (f : Form) (s : List ℕ) (cards card_at next shops shop_at a
 
       sound : Sound s l
       sound = record {
-        card-place = omega (arith, of-cards);
-        shop-place = omega (arith, of-cards, of-shops);
-        row-place = omega (arith, of-cards, of-shops, taken, width-split f.week cards shops);
-        size = omega (arith, of-cards, of-shops, taken, width-split f.week cards shops);
-        cards-most = of-cards.small;
-        shops-most = of-shops.small;
-        rows-most = taken.small;
+        card_place = omega (arith, of_cards);
+        shop_place = omega (arith, of_cards, of_shops);
+        row_place = omega (arith, of_cards, of_shops, taken, width-split f.week cards shops);
+        size = omega (arith, of_cards, of_shops, taken, width-split f.week cards shops);
+        cards_most = of_cards.small;
+        shops_most = of_shops.small;
+        rows_most = taken.small;
         parents = λ side g m. (groups side g m).parent;
-        row-cards = λ c m. (taken.each c m).card;
-        row-shops = λ c m. (taken.each c m).shop;
+        row_cards = λ c m. (taken.each c m).card;
+        row_shops = λ c m. (taken.each c m).shop;
       }
 
 module _ (K : ℕ) (f : Form) (s : List ℕ) (l : Layout) (is : reading_in K f s ≡ Accepted l) where

@@ -3,7 +3,7 @@
 --   none_above_lem above-none one-above              whether no limit of a record is above its parent's
 --   group-bad group-top group-stored group-above group-new     the fault of a group
 --   claim-passes                                 a claim without a fault
---   no_record record-cut record-fault next-record    the records that are left
+--   no_record record_cut record_fault next-record    the records that are left
 --   records-pass                                 records that lie within the bytes and have no fault
 --   count_cut count-large count_fits count-fine  the fault of a count
 --   section-fault section-fits                   a section by the fault of its count
@@ -111,16 +111,16 @@ module _ (size start width : ℕ) (fault : ℕ → Checked) (count k : ℕ) wher
       rw e
 
   module _ (h : k < count) where
-    pub record-cut :
+    pub record_cut :
         size < start + width * k + width → records_from size start width fault k (count - k) ≡ Fault CutOff
     unfolding records_from
-    record-cut short = rw (one_less count k h, lt-ltb _ _ short)
+    record_cut short = rw (one_less count k h, lt-ltb _ _ short)
 
     module _ (whole : start + width * k + width ≤ size) where
-      pub record-fault :
+      pub record_fault :
           (why : Refusal) → fault k ≡ Fault why → records_from size start width fault k (count - k) ≡ Fault why
       unfolding records_from
-      record-fault why e = rw (one_less count k h, le-ltb _ _ whole, e)
+      record_fault why e = rw (one_less count k h, le-ltb _ _ whole, e)
 
       pub next-record :
           fault k ≡ Fine →

@@ -30,8 +30,8 @@ abbrev read_on : Form → List ℕ → List ℕ → List ℕ → ℕ → Section
 read_on f s counts starts i = Read (get_or counts i 0) (get_or starts i 0) (place_on f s (suc i))
 
 pub record ReadTo (f : Form) (s : List ℕ) (side : ℕ) (counts starts : List ℕ) (at : ℕ) : Type 0 where
-  pub counts-long : length counts ≡ 2
-  pub starts-long : length starts ≡ 2
+  pub counts_long : length counts ≡ 2
+  pub starts_long : length starts ≡ 2
   pub upto : side ≤ 2
   pub place : at ≡ place_on f s side
   pub sections : (i : ℕ) → i < side → section_on f s i ≡ read_on f s counts starts i
@@ -39,7 +39,7 @@ pub record ReadTo (f : Form) (s : List ℕ) (side : ℕ) (counts starts : List �
 module _ (f : Form) (s : List ℕ) where
   pub read-start : ReadTo f s 0 (0 ∷ 0 ∷ []) (0 ∷ 0 ∷ []) 0
   read-start =
-      record { counts-long = refl; starts-long = refl; upto = omega arith; place = refl; sections = λ i h. absurd (omega arith) }
+      record { counts_long = refl; starts_long = refl; upto = omega arith; place = refl; sections = λ i h. absurd (omega arith) }
 
   module _ (side : ℕ) (counts starts : List ℕ) (at : ℕ) (r : ReadTo f s side counts starts at) (few : side < 2) where
     -- the section is that of the side
@@ -51,8 +51,8 @@ module _ (f : Form) (s : List ℕ) where
         ReadTo f s (side + 1) (set counts side count) (set starts side start) next
     read_next count start next e =
         record {
-          counts-long = simp length-set r.counts-long;
-          starts-long = simp length-set r.starts-long;
+          counts_long = simp length-set r.counts_long;
+          starts_long = simp length-set r.starts_long;
           upto = omega arith;
           place = sym (ap behind here) ∙ ap (place_on f s) (sym (add-one side));
           sections = λ i h.
@@ -68,8 +68,8 @@ module _ (f : Form) (s : List ℕ) where
         now : Read count start next ≡ read_on f s (set counts side count) (set starts side start) side
         now =
             read-cong _ _ _ _ _ _
-            (sym (get_or-set_same counts side count 0 (omega (arith, r.counts-long))))
-            (sym (get_or-set_same starts side start 0 (omega (arith, r.starts-long)))) (sym (ap behind here))
+            (sym (get_or-set_same counts side count 0 (omega (arith, r.counts_long))))
+            (sym (get_or-set_same starts side start 0 (omega (arith, r.starts_long)))) (sym (ap behind here))
 
         before : (i : ℕ) → i ≢ side → read_on f s counts starts i ≡ read_on f s (set counts side count) (set starts side start) i
         before i other =

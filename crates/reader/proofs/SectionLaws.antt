@@ -147,8 +147,8 @@ module _ (s : List ℕ) (a : ℕ) where
       ap (word s) e
       ∙ ap₂ (λ x y. x + 256 * y) (sym (get_or-drop a s i 0)) (ap (λ k. get_or s k 0) (omega arith) ∙ sym (get_or-drop a s (i + 1) 0))
 
-  record-part : (w : Bool) (start g : ℕ) → SameRecord w s (record_at w (a + start) g) part (record_at w start g)
-  record-part w start g =
+  record_part : (w : Bool) (start g : ℕ) → SameRecord w s (record_at w (a + start) g) part (record_at w start g)
+  record_part w start g =
       record {
         parent = word-part (record_at w start g) (record_at w (a + start) g) (omega arith);
         limits = λ k h. word-part (record_at w start g + 2 + 2 * k) (record_at w (a + start) g + 2 + 2 * k) (omega arith);
@@ -174,7 +174,7 @@ module _ (s : List ℕ) (a : ℕ) where
         (group_fault f part 2) left
         (λ k h. cut-part (record_at w 2 k + group_width w) (record_at w (a + 2) k + group_width w) (omega arith))
         (λ own h whole.
-        fault-same f s part (a + 2) 2 own (record-part w 2 own) (λ small. record-part w 2 (word s (record_at w (a + 2) own))))
+        fault-same f s part (a + 2) 2 own (record_part w 2 own) (λ small. record_part w 2 (word s (record_at w (a + 2) own))))
         0 left (omega arith)
 
     count-part : count_fault s a max_groups GroupCount ≡ count_fault part 0 max_groups GroupCount
@@ -212,8 +212,8 @@ module _ (s t : List ℕ) (a b : ℕ) (same : drop a s ≡ drop b t) where
   pub groups-same :
       (w : Bool) (k g : ℕ) → k < columns w → group_at w k s (a + 2) g ≡ group_at w k t (b + 2) g
   groups-same w k g h =
-      let here = record-part s a w 2 g in
-      let there = record-part t b w 2 g in
+      let here = record_part s a w 2 g in
+      let there = record_part t b w 2 g in
       ap₂ (λ (x y : ℕ). record { parent = x; limit = y })
       (here.parent ∙ ap (λ (r : List ℕ). word r (record_at w 2 g)) same ∙ sym there.parent)
       (here.limits k h ∙ ap (λ (r : List ℕ). limit_at r (record_at w 2 g) k) same ∙ sym (there.limits k h))
@@ -228,10 +228,10 @@ module _ (s t : List ℕ) (a b n : ℕ) (own : OwnBytes s a t b n) where
       (ap (λ k. get_or s k 0) e ∙ own i (omega arith) ∙ ap (λ k. get_or t k 0) (sym d))
       (ap (λ k. get_or s k 0) (omega arith) ∙ own (i + 1) h ∙ ap (λ k. get_or t k 0) (omega arith))
 
-  record-own :
+  record_own :
       (w : Bool) (p q g : ℕ) → p ≡ a + 2 → q ≡ b + 2 → record_at w 2 g + group_width w ≤ n →
       SameRecord w s (record_at w p g) t (record_at w q g)
-  record-own w p q g e d h =
+  record_own w p q g e d h =
       record {
         parent = word-own (record_at w 2 g) (record_at w p g) (record_at w q g) (omega (arith, width-least w)) (omega arith) (omega arith);
         limits = λ k m.
@@ -243,7 +243,7 @@ module _ (s t : List ℕ) (a b n : ℕ) (own : OwnBytes s a t b n) where
       (w : Bool) (k p q g : ℕ) → k < columns w → p ≡ a + 2 → q ≡ b + 2 → record_at w 2 g + group_width w ≤ n →
       group_at w k s p g ≡ group_at w k t q g
   group-own w k p q g m e d h =
-      let same = record-own w p q g e d h in
+      let same = record_own w p q g e d h in
       ap₂ (λ (x y : ℕ). record { parent = x; limit = y }) same.parent (same.limits k m)
 
 -- whatever stands behind it
@@ -278,7 +278,7 @@ module _ (f : Form) (s t : List ℕ) (a b count start next : ℕ) where
       few = omega (arith, counted, read.small)
 
       same : (g : ℕ) → g < count → SameRecord w s (record_at w (a + 2) g) t (record_at w (b + 2) g)
-      same g h = record-own s t a b size own w (a + 2) (b + 2) g refl refl (omega (arith, width-inside w g count h))
+      same g h = record_own s t a b size own w (a + 2) (b + 2) g refl refl (omega (arith, width-inside w g count h))
 
       -- a smaller parent is one of the records too
       judged : (g : ℕ) → g < count → group_fault f t (b + 2) g ≡ Fine

@@ -102,7 +102,7 @@ module _ (K L : ℕ) (f : Form) (s : List ℕ) (l : Layout) (is : reading_in L f
       behind-both = ap behind (sym shops-on ∙ all.sections 1 (omega arith))
 
       place : at + 2 ≡ l.row_at
-      place = omega (arith, behind-both, all.sound.shop-place, all.sound.row-place, width-split l.week l.cards l.shops)
+      place = omega (arith, behind-both, all.sound.shop_place, all.sound.row_place, width-split l.week l.cards l.shops)
 
       count : word s at ≡ l.rows
       count =

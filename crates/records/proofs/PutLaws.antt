@@ -6,7 +6,7 @@
 --   put-dropped            a group was passed over since it is dropped
 --   number-placed          the file has a place for the number of a used group
 --   above-put limit-new    the record of its parent was put before, so each limit in its new record is the file's as lowered
---   record-for put-used    its new record, and that it was put
+--   record_for put-used    its new record, and that it was put
 use mathlib.Core.Bool.{true}
 use mathlib.Core.Path.{◌≡◌, refl, sym, ap, ◌∙◌, subst}
 use mathlib.Core.Logic.{◌⊎◌, inl, inr}
@@ -156,10 +156,10 @@ module _ {s : List ℕ} {l new : Layout} {side g : ℕ} {out : List ℕ} (ready 
           own : ℕ
           own = (group_of s (on_day l i) side g).limit
 
-    record-for :
+    record_for :
         {p : ℕ} {limits : List ℕ} → p ≡ parent_for t g above → LimitsTo s l new side g p out days limits →
         SameGroup (week_group p (row limits)) ((canonical_contents s l).group side k)
-    record-for {p} parent made =
+    record_for {p} parent made =
         record {
           parent =
               parent
@@ -184,7 +184,7 @@ module _ {s : List ℕ} {l new : Layout} {side g : ℕ} {out : List ℕ} (ready 
           begun =
               begun-group (canonical_contents s l) ready.put.begun (λ n h. refl) side k
               (omega (arith, number-placed, numbers.count, records-on s l side)) ready.given.layout
-              (record-for (parent ∙ ap (λ (x : Group). parent_for t g x.parent) is) made) passed put;
+              (record_for (parent ∙ ap (λ (x : Group). parent_for t g x.parent) is) made) passed put;
         }
       where
         passed :

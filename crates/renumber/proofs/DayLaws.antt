@@ -46,16 +46,16 @@ module _ (s : List ℕ) (l : Layout) (d : ℕ) where
   pub sound-day : Sound s l → Sound s (on_day l d)
   sound-day sound =
       record {
-        card-place = sound.card-place;
-        shop-place = sound.shop-place;
-        row-place = sound.row-place;
+        card_place = sound.card_place;
+        shop_place = sound.shop_place;
+        row_place = sound.row_place;
         size = sound.size;
-        cards-most = sound.cards-most;
-        shops-most = sound.shops-most;
-        rows-most = sound.rows-most;
+        cards_most = sound.cards_most;
+        shops_most = sound.shops_most;
+        rows_most = sound.rows_most;
         parents = λ side. parents side;
-        row-cards = sound.row-cards;
-        row-shops = sound.row-shops;
+        row_cards = sound.row_cards;
+        row_shops = sound.row_shops;
       }
     where
       parents :
@@ -79,8 +79,8 @@ day-limit s side g is = ap (λ (x : Layout). (group_of s x side g).limit) is
 
 module _ {s : List ℕ} {l : Layout} (sound : Sound s l) where
   named-inside : (side c : ℕ) → c < l.rows → named s l side c < count_of l side
-  named-inside zero = sound.row-cards
-  named-inside (suc n) = sound.row-shops
+  named-inside zero = sound.row_cards
+  named-inside (suc n) = sound.row_shops
 
   pub side-sound : (side : ℕ) → SoundSide (side_of s l side)
   side-sound side = record { rooted = side-rooted s l side; named = λ c h. omega (arith, named-inside side c h) }

@@ -76,9 +76,9 @@ module _
         {first child card shop : ℕ → ℕ} {lo : ℕ} → Linked r spare first child card shop lo → Linked r spare' first child card shop lo
     linked-still L = record {
       at_first = λ u l. least-still (L.at_first u l);
-      at-child = λ v l m e. least-still (L.at-child v l m e);
-      at-card = λ c l m e. least-still (L.at-card c l m e);
-      at-shop = λ c l m e. least-still (L.at-shop c l m e);
+      at_child = λ v l m e. least-still (L.at_child v l m e);
+      at_card = λ c l m e. least-still (L.at_card c l m e);
+      at_shop = λ c l m e. least-still (L.at_shop c l m e);
     }
 
 pub only-spare : {sh : Shape} {t t' : List ℕ} → OnlyLists sh t t' → spare_of sh t' ≡ spare_of sh t
@@ -106,7 +106,7 @@ module _ {sh : Shape} (sheet : List ℕ) {t t' : List ℕ} where
     sheets = R.sheets;
     formed = subst (λ (r : Residual). Formed r.net) (sym (only-residual A)) R.formed;
     small = R.small;
-    small-toll = R.small-toll;
+    small_toll = R.small_toll;
   }
 
 pub links-of : {sh : Shape} {sheet t t' : List ℕ} {lo : ℕ} → LinkOf sh sheet t t' lo → Links sh sheet t' lo
@@ -303,10 +303,10 @@ module _ (r : Residual) (u j : ℕ) (h : Item r u j) where
         let C = child-of r l h in
         let k : r.net.rows + C.v + 1 ≡ j + 1 = omega (arith, C.code) in
         let q : C.v ≡ j - r.net.rows = omega (arith, C.code) in
-        rw (← q) (rw (C.at, k) at (L.at-child C.v C.group (omega (arith, C.code)) C.even))
+        rw (← q) (rw (C.at, k) at (L.at_child C.v C.group (omega (arith, C.code)) C.even))
 
     pub after-card : j < r.net.rows → r.net.card j ≡ u → Least r spare u (j + 1) (card j)
-    after-card l a = rw a at (L.at-card j l m (row_of r l h).even)
+    after-card l a = rw a at (L.at_card j l m (row_of r l h).even)
 
     pub after-shop : j < r.net.rows → r.net.card j ≢ u → Least r spare u (j + 1) (shop j)
-    after-shop l n = rw (item-shop l n) at (L.at-shop j l m (row_of r l h).even)
+    after-shop l n = rw (item-shop l n) at (L.at_shop j l m (row_of r l h).even)

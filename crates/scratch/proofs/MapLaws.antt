@@ -1,7 +1,7 @@
 -- Laws of the map of the lent buffers.
 --   each                     what holds of 0, 1, 2 and so on below n holds of every number below n
 --   start-apart start-total  sections side by side: cells of different sections lie apart, and below the end of the last
---   record-le                fields that lie in one cell are fields of one record
+--   record_le                fields that lie in one cell are fields of one record
 --   home                     the section of the map in which a cell of a table lies, its record there, and its field in the record
 --   place-apart place-low    what lies at one place is one cell of one table, or the two halves of a cell; every cell lies below the end of
 --                            the map
@@ -72,8 +72,8 @@ start-total (w ∷ ws) zero i a = omega arith
 start-total (w ∷ ws) (suc k) i a = omega (arith, start-total ws k i a)
 
 -- field e of record i and field f of record j, where a record has d fields
-record-le : (d i j e f : ℕ) → f < d → d * i + e ≡ d * j + f → i ≤ j
-record-le d i j e f l h =
+record_le : (d i j e f : ℕ) → f < d → d * i + e ≡ d * j + f → i ≤ j
+record_le d i j e f l h =
     elim (dec_le i j) [
       | yes m ↦ m
       | no n ↦ let m : j + 1 ≤ i = omega arith in absurd (omega (arith, mul-le-mul_left d m))
@@ -154,7 +154,7 @@ module _ (sh : Shape) (k l i j : ℕ) (same : place sh k i ≡ place sh l j) whe
   one-section : {p e f r s : ℕ} → Lies sh k i p e r → Lies sh l j p f s → ((k ≡ l) × (i ≡ j)) ⊎ Beside (part k) (part l)
   one-section {p} {e} {f} {r} {s} A B =
       let h : many p * r + e ≡ many p * s + f = omega (arith, same, A.at, B.at) in
-      let m : r ≡ s = omega (arith, record-le (many p) r s e f B.low h, record-le (many p) s r f e A.low (sym h)) in
+      let m : r ≡ s = omega (arith, record_le (many p) r s e f B.low h, record_le (many p) s r f e A.low (sym h)) in
       let n : e ≡ f = omega (arith, h, ap (λ x. many p * x) m) in
       elim (ℕ_discrete (part k) (part l)) [
         | yes z ↦

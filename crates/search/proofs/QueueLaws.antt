@@ -135,12 +135,12 @@ module _
       ready = same-ready sheet B.only Q.ready;
       free = Q.free;
       lists = same_lists sheet B.only Q.lists;
-      node = Q.target-node;
+      node = Q.target_node;
       reach =
-          reach-first back (residual_of sh sheet t') (kept_of ch) (spare_of sh t') (pred_of sh t') (queue_of sh t') start Q.start-node
+          reach-first back (residual_of sh sheet t') (kept_of ch) (spare_of sh t') (pred_of sh t') (queue_of sh t') start Q.start_node
           (omega (arith, more.here)) (λ v m n. more.else v n ∙ Q.dark v m) B.queue.here;
       aside = λ b.
-          let apart : sh.groups ≢ start = λ e. aside b (ap (label_of sh t) e ∙ Q.start-fresh) in (
+          let apart : sh.groups ≢ start = λ e. aside b (ap (label_of sh t) e ∙ Q.start_fresh) in (
             λ e. aside b (sym (B.label.else sh.groups apart) ∙ e),
             more.else sh.groups apart ∙ Q.dark sh.groups (omega arith),
           );
@@ -155,7 +155,7 @@ module _
       begin = W.begin ∙ B.queue.here;
       spread =
           spread-then sh.fresh (label_of sh t) (label_of sh t') (label_of sh t'')
-          (spread-puts sh.fresh (label_of sh t) (label_of sh t') start e Q.start-fresh l B.label) W.spread;
+          (spread-puts sh.fresh (label_of sh t) (label_of sh t') start e Q.start_fresh l B.label) W.spread;
       closed = λ z u m p. tables-same sheet B.only (λ x f. Done back x (kept_of ch) f sh.fresh (label_of sh t'') u) (W.closed z u m p);
     }
 

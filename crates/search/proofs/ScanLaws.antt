@@ -94,7 +94,7 @@ module _ {sh : Shape} {back : Bool} {ch sheet t₀ : List ℕ} {u h n : ℕ} whe
               (λ (p : P f). spread-stale b (label_of sh t) (label_of sh t') g.spread v (W.done f v p A))
               (λ (i : f ≡ e).
               let j : v ≡ T.v = step-head back r (kept_of ch) (spare_of sh t₀) e u v T.v (rw i at A) T.arc in
-              λ z. omega (arith, ap (label_of sh t') j, T.label-puts.here))
+              λ z. omega (arith, ap (label_of sh t') j, T.label_puts.here))
               i;
         })
         (λ (T : Passed back r (kept_of ch) (spare_of sh t₀) b (label_of sh t) (queue_of sh t) k (label_of sh t') (queue_of sh t') k' u e).

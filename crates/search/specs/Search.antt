@@ -33,9 +33,9 @@ pub record Asked (sh : Shape) (ch sheet t : List ℕ) (start target : ℕ) : Typ
   pub ready : Ready sh ch sheet t
   pub free : sh.free ≤ sh.rows
   pub lists : Lists sh sheet t
-  pub start-node : start < sh.groups + 2
-  pub target-node : target < sh.groups + 2
-  pub start-fresh : label_of sh t start ≡ sh.fresh
+  pub start_node : start < sh.groups + 2
+  pub target_node : target < sh.groups + 2
+  pub start_fresh : label_of sh t start ≡ sh.fresh
   pub dark : (v : ℕ) → v < sh.groups + 2 → pred_of sh t v ≡ 0
 
 module _ (sh : Shape) (back : Bool) (ch sheet t : List ℕ) where

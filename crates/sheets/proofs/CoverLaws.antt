@@ -77,7 +77,7 @@ leb-capped w m a b small =
 module _ (s : List ℕ) (l : Layout) (sound : Sound s l) (two : Kinds first_terms s l) where
   pub weight-price : (c : ℕ) → c < l.rows → weights (instance_of s l) c ≤ max_limit
   weight-price c h =
-      omega (arith, sound.rows-most, weight-two-top l.rows (kind_of s l) two c h)
+      omega (arith, sound.rows_most, weight-two-top l.rows (kind_of s l) two c h)
 
   module _ (sheet t : List ℕ) (p : Priced s l sheet t (groups_of l)) (c : ℕ) (inside : c < l.rows) where
     pub covers-is :

@@ -133,7 +133,7 @@ module _
         omega (arith, total_a, zero-total (instance_of (day_of 0).file l) ch sheet t ch' sheet' t' a C zero)
 
     pub past-the-rows : (k : ℕ) → 3 ≤ k → get_or ch' k 0 ≡ get_or ch k 0
-    past-the-rows k h = C.choice-rest.same k (omega (arith, rows-a))
+    past-the-rows k h = C.choice_rest.same k (omega (arith, rows-a))
 
 --------------------------------------------------------------------------------
 -- Day A with all rows ordinary

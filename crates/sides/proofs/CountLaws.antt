@@ -174,7 +174,7 @@ module _ (s : List ℕ) (l : Layout) (side : ℕ) (k₀ : List ℕ) where
     rising-small b v wait =
         omega (
           arith,
-          b.held.sound.rows-most,
+          b.held.sound.rows_most,
           risen-small l.rows (count_of l side) (parent_in s l side) (hangs s l side) (limit_in s l side) b.chosen
               (side-rooted s l side) b.named.bits g (row k) all (w b.chosen b.named) v wait,
         )

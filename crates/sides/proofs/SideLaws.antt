@@ -55,15 +55,15 @@ module _ (s : List ℕ) (l : Layout) (c : ℕ) (claim : Claim) (is : claim ≡ c
 pub side-node : (s : List ℕ) (l : Layout) → Sound s l → (side c : ℕ) → c < l.rows → hangs s l side c ≤ count_of l side
 side-node s l sound zero c h =
     elim (ℕ_discrete (kind_of s l c) 0) [
-      | yes e ↦ omega (arith, card-ordinary (parent_in s l 0) (claim_of s l c) e, sound.row-cards c h)
+      | yes e ↦ omega (arith, card-ordinary (parent_in s l 0) (claim_of s l c) e, sound.row_cards c h)
       | no n ↦
           let lifted = card-earned (parent_in s l 0) (claim_of s l c) n in
-          elim (side-rooted s l 0 (named_card s l c) (sound.row-cards c h)) [
-            | inl q ↦ omega (arith, lifted, q, sound.row-cards c h)
+          elim (side-rooted s l 0 (named_card s l c) (sound.row_cards c h)) [
+            | inl q ↦ omega (arith, lifted, q, sound.row_cards c h)
             | inr q ↦ omega (arith, lifted, q)
           ]
     ]
-side-node s l sound (suc n) c h = omega (arith, sound.row-shops c h)
+side-node s l sound (suc n) c h = omega (arith, sound.row_shops c h)
 
 module _ (s : List ℕ) (l : Layout) (sound : Sound s l) where
   pub sound-matroid : (side : ℕ) → Matroid l.rows (Independent (network_of s l) (limit_of s l) side)
@@ -100,12 +100,12 @@ module _ (s : List ℕ) (l : Layout) (sound : Sound s l) where
       (elim (ℕ_discrete (kind_of s l c) 0) [
         | yes e ↦
             rw (card-ordinary (parent_in s l 0) (claim_of s l c) e, card-ordinary (parent_of s l) (claim_of s l c) e)
-            (inl (sound.row-cards c h, sym (zero-add (named_card s l c))))
+            (inl (sound.row_cards c h, sym (zero-add (named_card s l c))))
         | no n ↦
             rw (card-earned (parent_in s l 0) (claim_of s l c) n, card-earned (parent_of s l) (claim_of s l c) n)
-            (rw zero-add at (stands 0 (named_card s l c) (sound.row-cards c h)))
+            (rw zero-add at (stands 0 (named_card s l c) (sound.row_cards c h)))
       ])
-  row-stands (suc n) c h = inl (sound.row-shops c h, shop-node s l c)
+  row-stands (suc n) c h = inl (sound.row_shops c h, shop-node s l c)
 
   module _ (side : ℕ) where
     -- limits of the side's groups and limits of the nodes that agree

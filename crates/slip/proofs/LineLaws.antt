@@ -110,8 +110,8 @@ module _ (s : List ℕ) (l : Layout) (sound : Sound s l) (sel : List ℕ) where
   is_row : (c : ℕ) → c < l.rows → Line (row_line c (named_card s l c) (named_shop s l c) (is_earned s l c))
   is_row c h =
       row-line c (named_card s l c) (named_shop s l c) (is_earned s l c)
-      (row-width c (named_card s l c) (named_shop s l c) (is_earned s l c) (omega (arith, sound.rows-most))
-      (omega (arith, sound.row-cards c h, sound.cards-most)) (omega (arith, sound.row-shops c h, sound.shops-most)))
+      (row-width c (named_card s l c) (named_shop s l c) (is_earned s l c) (omega (arith, sound.rows_most))
+      (omega (arith, sound.row_cards c h, sound.cards_most)) (omega (arith, sound.row_shops c h, sound.shops_most)))
 
   -- one row more: a line more where it is kept
   next :

@@ -159,13 +159,13 @@ module _ (s : List ℕ) (l : Layout) (sound : Sound s l) (sel : List ℕ) where
       × (length (ascii "EARNED") + length (decimal (earned_rows s l l.rows sel)) ≤ 11)
       × (length (ascii "KEPT") + length (decimal (kept_rows l.rows sel)) ≤ 10)
   counts-fit = (
-    omega (arith, small l.rows (omega (arith, sound.rows-most))),
+    omega (arith, small l.rows (omega (arith, sound.rows_most))),
     omega (
       arith,
       small (earned_rows s l l.rows sel)
-          (omega (arith, sound.rows-most, count_most l.rows (λ c. is_kept sel c && is_earned s l c))),
+          (omega (arith, sound.rows_most, count_most l.rows (λ c. is_kept sel c && is_earned s l c))),
     ),
-    omega (arith, small (kept_rows l.rows sel) (omega (arith, sound.rows-most, count_most l.rows (is_kept sel)))),
+    omega (arith, small (kept_rows l.rows sel) (omega (arith, sound.rows_most, count_most l.rows (is_kept sel)))),
   )
 
   -- no number of a row's line is wider than its field
@@ -173,9 +173,9 @@ module _ (s : List ℕ) (l : Layout) (sound : Sound s l) (sel : List ℕ) where
       (c : ℕ) → c < l.rows →
       (length (decimal c) ≤ 8) × (length (decimal (named_card s l c)) ≤ 8) × (length (decimal (named_shop s l c)) ≤ 8)
   numbers_fit c h = (
-    omega (arith, small c (omega (arith, sound.rows-most))),
-    omega (arith, small (named_card s l c) (omega (arith, sound.row-cards c h, sound.cards-most))),
-    omega (arith, small (named_shop s l c) (omega (arith, sound.row-shops c h, sound.shops-most))),
+    omega (arith, small c (omega (arith, sound.rows_most))),
+    omega (arith, small (named_card s l c) (omega (arith, sound.row_cards c h, sound.cards_most))),
+    omega (arith, small (named_shop s l c) (omega (arith, sound.row_shops c h, sound.shops_most))),
   )
 
   pub line-width : (c : ℕ) → c < l.rows → length (kept_line s l c sel) ≡ width * pick (is_kept sel c) 1 0
@@ -184,8 +184,8 @@ module _ (s : List ℕ) (l : Layout) (sound : Sound s l) (sel : List ℕ) where
       elim (either (is_kept sel c)) [
         | inl e ↦
             rw e
-            (row-width c (named_card s l c) (named_shop s l c) (is_earned s l c) (omega (arith, sound.rows-most))
-            (omega (arith, sound.row-cards c h, sound.cards-most)) (omega (arith, sound.row-shops c h, sound.shops-most)))
+            (row-width c (named_card s l c) (named_shop s l c) (is_earned s l c) (omega (arith, sound.rows_most))
+            (omega (arith, sound.row_cards c h, sound.cards_most)) (omega (arith, sound.row_shops c h, sound.shops_most)))
         | inr e ↦ rw e refl
       ]
 
@@ -207,9 +207,9 @@ module _ (s : List ℕ) (l : Layout) (sound : Sound s l) (sel : List ℕ) where
       (earned kept : ℕ) → earned ≡ earned_rows s l l.rows sel → kept ≡ kept_rows l.rows sel →
       length (first_line l.rows earned kept) ≡ width
   first-length earned kept p q =
-      first_width l.rows earned kept (omega (arith, sound.rows-most))
-      (omega (arith, sound.rows-most, count_most l.rows (λ c. is_kept sel c && is_earned s l c)))
-      (omega (arith, sound.rows-most, count_most l.rows (is_kept sel)))
+      first_width l.rows earned kept (omega (arith, sound.rows_most))
+      (omega (arith, sound.rows_most, count_most l.rows (λ c. is_kept sel c && is_earned s l c)))
+      (omega (arith, sound.rows_most, count_most l.rows (is_kept sel)))
 
   pub slip-length : length (slip s l sel) ≡ needed l sel
   unfolding slip

@@ -259,7 +259,7 @@ module _ (s sel : List ℕ) (l : Layout) (ready : Ready s sel l) (x : ℕ) (insi
   told-spares : ((i : ℕ) → get_or s i 0 < 256) → SparesOn (instance_of s l) sel x number
   told-spares bytes =
       let h = hangs s l 1 x in
-      let own = ready.sound.row-shops x inside in
+      let own = ready.sound.row_shops x inside in
       let within : l.cards + h < groups_of l = omega arith in
       spares net formed (limit_of s l) (row sel) x inside (l.cards + h) within
       (both-on s l ready.sound x inside 1 h own ∙ up_one (side-down s l 1) h h (up-own (side-down s l 1) h own))

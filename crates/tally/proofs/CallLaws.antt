@@ -100,7 +100,7 @@ module _ (tb : List ℕ) (st : State) (c : ℕ) where
   module _ (i : Instance) (X : ℕ → ℕ) (H : Holds i own X) where
     past : Lacks st.rows c → i.net.rows ≤ c
     past (inl h) = omega (arith, H.rows)
-    past (inr h) = omega (arith, H.rows-most)
+    past (inr h) = omega (arith, H.rows_most)
 
     within : Lies st.rows c → c < i.net.rows
     within h = omega (arith, h.row, H.rows)
@@ -240,7 +240,7 @@ module _ (st : State) where
       elim (dec_lt g i.net.cards) [
         | yes h ↦
             let k : g < st.cards = omega (arith, H.cards) in
-            let low : g < 512 = omega (arith, H.shops, H.groups-most) in
+            let low : g < 512 = omega (arith, H.shops, H.groups_most) in
             rw (lt-ltb _ _ h, lt-ltb _ _ k, lt-leb _ _ low)
             (ap told (sym (count-is i (tally tb st) X H g (omega (arith, H.shops)))))
         | no h ↦
@@ -252,8 +252,8 @@ module _ (st : State) where
       elim (dec_lt g st.shops) [
         | yes h ↦
             let j : i.net.cards + g < i.net.groups = omega (arith, H.shops) in
-            let cards : st.cards < 512 = omega (arith, H.cards, H.shops, H.groups-most) in
-            let both : st.cards + g < 512 = omega (arith, H.cards, H.shops, H.groups-most) in
+            let cards : st.cards < 512 = omega (arith, H.cards, H.shops, H.groups_most) in
+            let both : st.cards + g < 512 = omega (arith, H.cards, H.shops, H.groups_most) in
             rw (lt-ltb _ _ j, lt-leb _ _ h, lt-leb _ _ cards, lt-leb _ _ both)
             (ap told
             (sym

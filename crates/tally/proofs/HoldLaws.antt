@@ -58,25 +58,25 @@ module _ (i : Instance) (t : Tally) (X : ℕ → ℕ) (H : Holds i t X) where
 
   parent-cell : (v : ℕ) → v < d.groups → get_or tb v 0 ≡ to_cell d.groups (d.parent v)
   parent-cell v h =
-      H.tables v (omega (arith, H.groups-most))
-      ∙ cell-parent i v (omega (arith, H.groups-most))
+      H.tables v (omega (arith, H.groups_most))
+      ∙ cell-parent i v (omega (arith, H.groups_most))
       ∙ up-to-in d.groups (λ w. to_cell d.groups (d.parent w)) v h
 
   limit-cell : (v : ℕ) → v < d.groups → limit_in tb v ≡ i.limit v
   limit-cell v h =
-      H.tables (512 + v) (omega (arith, H.groups-most))
-      ∙ cell-limit i v (omega (arith, H.groups-most))
+      H.tables (512 + v) (omega (arith, H.groups_most))
+      ∙ cell-limit i v (omega (arith, H.groups_most))
       ∙ up-to-in d.groups i.limit v h
 
   pub count-is : (v : ℕ) → v < d.groups → get_or t.state.counts v 0 ≡ count d X v
-  count-is v h = H.counts v (omega (arith, H.groups-most)) ∙ up-to-in d.groups (count d X) v h
+  count-is v h = H.counts v (omega (arith, H.groups_most)) ∙ up-to-in d.groups (count d X) v h
 
   -- the groups are the first of the 512 nodes
   part-of : Part d.groups d.parent 512 (above_in tb) 0
   part-of = record {
     down = down;
     whole = in-down tb;
-    room = omega (arith, H.groups-most);
+    room = omega (arith, H.groups_most);
     up = λ v h.
         let here : 0 + v ≡ v = omega arith in
         elim (down v h) [
@@ -86,7 +86,7 @@ module _ (i : Instance) (t : Tally) (X : ℕ → ℕ) (H : Holds i t X) where
               inl (omega arith, ap (above_in tb) here ∙ rw (lt-ltb _ _ less) (omega (arith, is)))
           | inr large ↦
               let is = parent-cell v h ∙ to-root d.groups (d.parent v) large in
-              let most : v ≤ get_or tb v 0 = omega (arith, is, H.groups-most) in
+              let most : v ≤ get_or tb v 0 = omega (arith, is, H.groups_most) in
               let root : above_in tb v ≡ 512 = rw (le-ltb _ _ most) in
               inr (large, omega (arith, ap (above_in tb) here, root))
         ];
@@ -94,7 +94,7 @@ module _ (i : Instance) (t : Tally) (X : ℕ → ℕ) (H : Holds i t X) where
 
   module _ (c : ℕ) (h : c < d.rows) where
     row-few : c < 512
-    row-few = omega (arith, H.rows-most)
+    row-few = omega (arith, H.rows_most)
 
     pub in_is : get_or t.state.selection c 0 ≡ X c
     in_is = H.selection c row-few ∙ up-to-in d.rows X c h
@@ -211,10 +211,10 @@ module _ (i : Instance) (t : Tally) (X : ℕ → ℕ) (H : Holds i t X) where
       counted-on : (v : ℕ) → v < d.groups → on_both d c v ≡ 1 → get_or k' v 0 ≡ stepped more (get_or k v 0)
       counted-on v j one =
           elim (ℕ_discrete (up 0 v) 1) [
-            | yes e ↦ C.shop.off v (omega (arith, ups v j)) ∙ C.card.on (omega (arith, H.long-counts)) v e
+            | yes e ↦ C.shop.off v (omega (arith, ups v j)) ∙ C.card.on (omega (arith, H.long_counts)) v e
             | no e ↦
                 let none : up 0 v ≡ 0 = omega (arith, up_small tb (node_in tb 0 c) v) in
-                C.shop.on (omega (arith, C.card.long, H.long-counts)) v (omega (arith, ups v j))
+                C.shop.on (omega (arith, C.card.long, H.long_counts)) v (omega (arith, ups v j))
                 ∙ ap (stepped more) (C.card.off v none)
           ]
 
@@ -252,16 +252,16 @@ module _ (i : Instance) (t : Tally) (X : ℕ → ℕ) (H : Holds i t X) where
           moved_holds : Holds i (tally tb (placed t.state k' c x)) Y
           moved_holds = record {
             formed = H.formed;
-            groups-most = H.groups-most;
-            rows-most = H.rows-most;
+            groups_most = H.groups_most;
+            rows_most = H.rows_most;
             cards = H.cards;
             shops = H.shops;
             rows = H.rows;
             tables = H.tables;
-            long-counts = C.shop.long ∙ C.card.long ∙ H.long-counts;
-            long-selection = length-set t.state.selection c x ∙ H.long-selection;
+            long_counts = C.shop.long ∙ C.card.long ∙ H.long_counts;
+            long_selection = length-set t.state.selection c x ∙ H.long_selection;
             selection = λ j low.
-                elim (at_set t.state.selection c x j (omega (arith, H.long-selection, row-few))) [
+                elim (at_set t.state.selection c x j (omega (arith, H.long_selection, row-few))) [
                   | inl q ↦
                       q.1 ∙ sym (ap (up_to d.rows Y) q.0 ∙ up-to-in d.rows Y c h ∙ own)
                   | inr q ↦

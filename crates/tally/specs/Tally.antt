@@ -47,15 +47,15 @@ none c = 0
 pub record Holds (i : Instance) (t : Tally) (X : ℕ → ℕ) : Type 0 where
   -- the day has a cell for each group and each row
   pub formed : Formed i.net
-  pub groups-most : i.net.groups ≤ nodes
-  pub rows-most : i.net.rows ≤ max_rows
+  pub groups_most : i.net.groups ≤ nodes
+  pub rows_most : i.net.rows ≤ max_rows
   pub cards : t.state.cards ≡ i.net.cards
   pub shops : i.net.cards + t.state.shops ≡ i.net.groups
   pub rows : t.state.rows ≡ i.net.rows
   pub tables : Table cells (cell_of i) t.tables
   -- these arrays of a tally have their lengths by their types
-  pub long-counts : length t.state.counts ≡ nodes
-  pub long-selection : length t.state.selection ≡ max_rows
+  pub long_counts : length t.state.counts ≡ nodes
+  pub long_selection : length t.state.selection ≡ max_rows
   pub selection : Table max_rows (up_to i.net.rows X) t.state.selection
   pub counts : Table nodes (up_to i.net.groups (count i.net X)) t.state.counts
   pub choice : Choice i.net i.limit X

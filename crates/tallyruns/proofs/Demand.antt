@@ -112,7 +112,7 @@ module _
     enters =
         entered_by_lem first_terms f s sel (Accepted l) is
         ∙ sym
-        (judged-is sel l (omega (arith, day-holds.long-selection, day-holds.rows-most)) day
+        (judged-is sel l (omega (arith, day-holds.long_selection, day-holds.rows_most)) day
         (bits_are l.rows sel (λ c h. omega (arith, selection-rows c h, day-holds.choice.bits c h))))
 
     -- selections that agree on the rows fit alike

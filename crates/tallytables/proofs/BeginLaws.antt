@@ -52,14 +52,14 @@ pub filled_none :
     st ≡ none_in l.cards l.shops l.rows → Holds (instance_of s l) (tally tb st) none
 filled_none s l sound tb st table is = subst (λ (x : State). Holds (instance_of s l) (tally tb x) none) (sym is) record {
   formed = sound-formed s l sound;
-  groups-most = omega (arith, sound.cards-most, sound.shops-most);
-  rows-most = sound.rows-most;
+  groups_most = omega (arith, sound.cards_most, sound.shops_most);
+  rows_most = sound.rows_most;
   cards = refl;
   shops = refl;
   rows = refl;
   tables = table;
-  long-counts = length-replicate {A = ℕ} 512 0;
-  long-selection = length-replicate {A = ℕ} 512 0;
+  long_counts = length-replicate {A = ℕ} 512 0;
+  long_selection = length-replicate {A = ℕ} 512 0;
   selection = λ i h. get_or-replicate {A = ℕ} 512 i 0 0 h ∙ zero-up-to l.rows none (λ j. refl) i;
   counts = λ v h.
       get_or-replicate {A = ℕ} 512 v 0 0 h

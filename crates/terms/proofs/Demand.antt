@@ -93,7 +93,7 @@ module _
     pub marks-most :
         ((v : ℕ) → v < i.net.groups → mark_of sheet' v ≤ (i.net.rows + 1) ^ (K - 1))
         × ((c : ℕ) → c < i.net.rows → claim_mark_of i.net sheet' c ≤ (i.net.rows + 1) ^ (K - 1))
-    marks-most = (C.certified.group-range, C.certified.row-range)
+    marks-most = (C.certified.group_range, C.certified.row_range)
 
     module _ (Y : ℕ → ℕ) (fits : Choice i.net i.limit Y) where
       pub sheet-bounds : worth i.net.rows (weight_of i.net.rows i.kind) Y ≤ sum

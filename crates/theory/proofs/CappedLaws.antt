@@ -110,8 +110,8 @@ module _ (d : Network) (formed : Formed d) (most : ℕ) (few : d.rows < most) (l
 
     pub capped-certified : Certified d limit w top X y z
     capped-certified = record {
-      group-range = C.group-range;
-      row-range = C.row-range;
+      group_range = C.group_range;
+      row_range = C.row_range;
       cover = C.cover;
       equal = omega (arith, C.equal, sum-cong d.groups {f = λ v. cut v * y v} {g = λ v. limit v * y v} term);
     }

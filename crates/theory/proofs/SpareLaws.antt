@@ -137,17 +137,17 @@ module _ (d : Network) (x k : ℕ) where
   again-formed f inside =
       record {
         sides = f.sides;
-        card-parent = f.card-parent;
-        shop-parent = f.shop-parent;
-        card-node = λ c l.
+        card_parent = f.card_parent;
+        shop_parent = f.shop_parent;
+        card_node = λ c l.
             elim (dec_lt c d.rows) [
-              | yes h ↦ subst (CardNode d) (sym (node-old 0 c h)) (f.card-node c h)
-              | no h ↦ subst (CardNode d) (sym (node-new 0 c (omega arith))) (f.card-node x inside)
+              | yes h ↦ subst (CardNode d) (sym (node-old 0 c h)) (f.card_node c h)
+              | no h ↦ subst (CardNode d) (sym (node-new 0 c (omega arith))) (f.card_node x inside)
             ];
-        shop-node = λ c l.
+        shop_node = λ c l.
             elim (dec_lt c d.rows) [
-              | yes h ↦ subst (ShopNode d) (sym (node-old 1 c h)) (f.shop-node c h)
-              | no h ↦ subst (ShopNode d) (sym (node-new 1 c (omega arith))) (f.shop-node x inside)
+              | yes h ↦ subst (ShopNode d) (sym (node-old 1 c h)) (f.shop_node c h)
+              | no h ↦ subst (ShopNode d) (sym (node-new 1 c (omega arith))) (f.shop_node x inside)
             ];
       }
 

@@ -14,12 +14,12 @@ ShopNode d u = ((d.cards ≤ u) × (u < d.groups)) ⊎ (u ≡ d.groups + 1)
 
 pub record Formed (d : Network) : Type 0 where
   pub sides : d.cards ≤ d.groups
-  pub card-parent : (v : ℕ) → v < d.cards → (d.parent v < v) ⊎ (d.parent v ≡ d.groups)
-  pub shop-parent :
+  pub card_parent : (v : ℕ) → v < d.cards → (d.parent v < v) ⊎ (d.parent v ≡ d.groups)
+  pub shop_parent :
       (v : ℕ) → d.cards ≤ v → v < d.groups →
       ((d.cards ≤ d.parent v) × (d.parent v < v)) ⊎ (d.parent v ≡ d.groups + 1)
-  pub card-node : (c : ℕ) → c < d.rows → CardNode d (d.card c)
-  pub shop-node : (c : ℕ) → c < d.rows → ShopNode d (d.shop c)
+  pub card_node : (c : ℕ) → c < d.rows → CardNode d (d.card c)
+  pub shop_node : (c : ℕ) → c < d.rows → ShopNode d (d.shop c)
 
 pub record Alike (d e : Network) : Type 0 where
   pub cards : d.cards ≡ e.cards

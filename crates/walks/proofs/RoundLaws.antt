@@ -124,8 +124,8 @@ module _ {sh : Shape} {ch sheet t t₁ : List ℕ} {b : Bool} (B : Begun sh ch s
       filled : Filled sh ch sheet t₁ ch' t₃
       filled = path-filled walk-state (moves-keeps moves) ch' P.long flipped
 
-      queue-same : queue_of sh t₃ ≡ queue_of sh t₁
-      queue-same = G.only.rest queues (λ e. omega arith) ∙ P.only.rest queues (λ e. omega arith)
+      queue_same : queue_of sh t₃ ≡ queue_of sh t₁
+      queue_same = G.only.rest queues (λ e. omega arith) ∙ P.only.rest queues (λ e. omega arith)
 
       crossed : Crossed sh ch sheet t ch' t₃
       crossed = record {
@@ -139,7 +139,7 @@ module _ {sh : Shape} {ch sheet t t₁ : List ℕ} {b : Bool} (B : Begun sh ch s
         };
         ahead =
             subst (λ (r : Residual). Ahead r (queue_of sh t₃)) (sym (residual-keeps (moves-keeps moves) sheet))
-            (subst (λ (f : ℕ → ℕ). Ahead (residual_of sh sheet t₁) f) (sym queue-same) W.ahead);
+            (subst (λ (f : ℕ → ℕ). Ahead (residual_of sh sheet t₁) f) (sym queue_same) W.ahead);
       }
 
       pub crossed-turn : Turn sh ch sheet t ch' t₃ true

@@ -30,7 +30,7 @@ use Rattle.residual.specs.Items.{AtItem, ChildItem, ItemArc, Least, rise_at, fal
 use Rattle.look.specs.Look.{Leads}
 use Rattle.look.proofs.LookLaws.{up-leads, down-leads, row-leads}
 use Rattle.look.proofs.ReachLaws.{arc-row, arc-child, unlisted-step}
-use Rattle.look.proofs.StepLaws.{same_tables, tables-same, same-ready, same_lists, item-down, item-row, ends-card, ends-shop, at-shop}
+use Rattle.look.proofs.StepLaws.{same_tables, tables-same, same-ready, same_lists, item-down, item-row, ends-card, ends-shop, at_shop}
 use Rattle.search.specs.Search.{Rising}
 use Rattle.walks.specs.Walk.{Pointed, Ahead, Fresh, Goes, Ways, FreshOf, GoesOf, BarrenOf, WaysOf, Beyond, Onto, Standing, Chosen}
 use Rattle.walks.specs.Walk.{Opened, Went}
@@ -164,7 +164,7 @@ module _ {sh : Shape} {ch sheet t : List ℕ} (R : Ready sh ch sheet t) {u : ℕ
       pub shop-leads : a ≢ u → Leads sh false ch sheet t (arc_at (net_of sh t) false j) u a (eqb y 1)
       shop-leads n =
           let w = item-row A l (inr refl) in
-          leads-as (arc-row (net_of sh t) false l) (at-shop A l ca refl n)
+          leads-as (arc-row (net_of sh t) false l) (at_shop A l ca refl n)
           (row-leads sh ch sheet t false R.formed (ends-shop A l ca refl refl) w.0 w.1 k)
 
 --------------------------------------------------------------------------------

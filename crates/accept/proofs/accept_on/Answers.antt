@@ -21,7 +21,7 @@ lengths c =
 pub marks_of-marks-requires : goal.marks_of-marks-requires
 marks_of-marks-requires c =
     let sound = c.requires.0 in
-    (sound.cards-most, sound.shops-most, sound.rows-most)
+    (sound.cards_most, sound.shops_most, sound.rows_most)
 
 pub returns-then-choice-rows : goal.returns-then-choice-rows
 returns-then-choice-rows c =

@@ -7,15 +7,15 @@ use Rattle.canonical.proofs.canonical_on.Goals as goal
 pub layout_for-new-requires : goal.layout_for-new-requires
 layout_for-new-requires c =
     let sound = c.requires.0 in
-    (count_most sound 0 c.number_side-card_groups.ensures, count_most sound 1 c.number_side-shop_groups.ensures, sound.rows-most)
+    (count_most sound 0 c.number_side-card_groups.ensures, count_most sound 1 c.number_side-shop_groups.ensures, sound.rows_most)
 
 pub put_file-requires : goal.put_file-requires
 put_file-requires c =
     let sound = c.requires.0 in
-    let of-cards = c.number_side-card_groups.ensures in
-    let of-shops = c.number_side-shop_groups.ensures in
+    let of_cards = c.number_side-card_groups.ensures in
+    let of_shops = c.number_side-shop_groups.ensures in
     let is = c.layout_for-new.ensures.0 in
-    (given-for sound of-cards of-shops is c.requires.1 c.layout_for-new.ensures.1, tables-for sound of-cards of-shops is)
+    (given-for sound of_cards of_shops is c.requires.1 c.layout_for-new.ensures.1, tables-for sound of_cards of_shops is)
 
 pub returns : goal.returns
 returns c =

@@ -9,7 +9,7 @@ use Rattle.canonical.proofs.write_canonical.Goals as goal
 pub week_length-least-requires : goal.week_length-least-requires
 week_length-least-requires c =
     let sound = accepted-sound _ _ _ (sym c.read-reading.ensures ∙ c.in-Accepted.is) in
-    (sound.cards-most, sound.shops-most, sound.rows-most)
+    (sound.cards_most, sound.shops_most, sound.rows_most)
 
 pub returns-then-out-least : goal.returns-then-out-least
 returns-then-out-least c =

@@ -13,6 +13,6 @@ returns c =
     let a = c.args in
     let is = c.claim_at.ensures ∙ ap (λ (r : List ℕ). claim_at r a.c) (tail-is a.layout.row_at a.file.now) in (
       is,
-      omega (arith, ap (λ (x : Claim). x.card) is, c.requires.0.row-cards a.c c.requires.1),
-      omega (arith, ap (λ (x : Claim). x.shop) is, c.requires.0.row-shops a.c c.requires.1),
+      omega (arith, ap (λ (x : Claim). x.card) is, c.requires.0.row_cards a.c c.requires.1),
+      omega (arith, ap (λ (x : Claim). x.shop) is, c.requires.0.row_shops a.c c.requires.1),
     )

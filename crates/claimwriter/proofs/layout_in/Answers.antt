@@ -37,7 +37,7 @@ layout_for-requires c =
     let shops = shops-read day s _ c.requires _ _ cards c.u16_at-shops.ensures.0 in
     let rows = rows-read day s _ c.requires _ _ _ cards shops c.u16_at-rows.ensures.0 in
     let sound = accepted-sound (new_week day) s _ c.requires in
-    (omega (arith, cards, sound.cards-most), omega (arith, shops, sound.shops-most), omega (arith, rows, sound.rows-most))
+    (omega (arith, cards, sound.cards_most), omega (arith, shops, sound.shops_most), omega (arith, rows, sound.rows_most))
 
 pub returns : goal.returns
 returns c =

@@ -12,7 +12,7 @@ returns-then-layout-eq0 c = empty-settlement first_terms _ _ _ _ _ (omega (arith
 pub shape_of-requires : goal.shape_of-requires
 shape_of-requires c =
     let sound = c.requires.sound in
-    (sound.cards-most, sound.shops-most, sound.rows-most)
+    (sound.cards_most, sound.shops_most, sound.rows_most)
 
 pub write_tables-requires : goal.write_tables-requires
 write_tables-requires c =

@@ -5,7 +5,7 @@ use Rattle.closing.proofs.solve_on.Goals as goal
 pub shape_of-requires : goal.shape_of-requires
 shape_of-requires c =
     let asked = c.requires in
-    (asked.cards-most, asked.shops-most, asked.rows-most)
+    (asked.cards_most, asked.shops_most, asked.rows_most)
 
 pub solve-requires : goal.solve-requires
 solve-requires c = solvable-by _ _ c.shape_of.ensures _ _ _ c.requires.solvable

@@ -7,12 +7,12 @@ use Rattle.closing.proofs.totals_of.Goals as goal
 pub overflow_mul-result : goal.overflow_mul-result
 overflow_mul-result c =
     let pre = c.requires in
-    omega (arith, totals-small _ _ _ _ c.count_rows-counts.ensures pre.sound.rows-most)
+    omega (arith, totals-small _ _ _ _ c.count_rows-counts.ensures pre.sound.rows_most)
 
 pub overflow_add-result : goal.overflow_add-result
 overflow_add-result c =
     let pre = c.requires in
-    omega (arith, totals-small _ _ _ _ c.count_rows-counts.ensures pre.sound.rows-most)
+    omega (arith, totals-small _ _ _ _ c.count_rows-counts.ensures pre.sound.rows_most)
 
 pub returns : goal.returns
 returns c =

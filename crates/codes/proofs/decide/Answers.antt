@@ -20,7 +20,7 @@ find_codes-requires c =
     let lent = c.requires.0 in
     let sound = lent.sound in
     tables-ready first_terms _ _ _ (in-first _ _ lent.kinds) sound (omega (arith, c.if-layout-eq0.false)) _ lent.cells _
-    c.shape_of-sh.ensures _ _ lent.bytes (omega (arith, c.requires.1, sound.cards-most, sound.shops-most)) _ c.write_tables.ensures
+    c.shape_of-sh.ensures _ _ lent.bytes (omega (arith, c.requires.1, sound.cards_most, sound.shops_most)) _ c.write_tables.ensures
 
 pub returns : goal.returns
 returns c =

@@ -7,7 +7,7 @@ use Rattle.instance.proofs.card_node.Goals as goal
 pub returns-then-claim-eq0 : goal.returns-then-claim-eq0
 returns-then-claim-eq0 c =
     let a = c.args in
-    (hung-ordinary a.file.now a.layout a.root a.claim (omega arith), omega (arith, c.requires.0.cards-most))
+    (hung-ordinary a.file.now a.layout a.root a.claim (omega arith), omega (arith, c.requires.0.cards_most))
 
 pub returns : goal.returns
 returns c =

@@ -16,7 +16,7 @@ returns-then-layout-eq0 c =
 pub shape_of-requires : goal.shape_of-requires
 shape_of-requires c =
     let sound = c.requires.lent.sound in
-    (sound.cards-most, sound.shops-most, sound.rows-most)
+    (sound.cards_most, sound.shops_most, sound.rows_most)
 
 pub write_joined-requires : goal.write_joined-requires
 write_joined-requires c =

@@ -36,13 +36,13 @@ pub marks_of-marks-requires : goal.marks_of-marks-requires
 marks_of-marks-requires c =
     let a = c.args in
     let sound = joins-sound a.day a.files.now a.lengths.now a.oven a.layout c.requires in
-    (sound.cards-most, sound.shops-most, sound.rows-most)
+    (sound.cards_most, sound.shops_most, sound.rows_most)
 
 pub scratch_of-cells-requires : goal.scratch_of-cells-requires
 scratch_of-cells-requires c =
     let a = c.args in
     let sound = joins-sound a.day a.files.now a.lengths.now a.oven a.layout c.requires in
-    (sound.cards-most, sound.shops-most, sound.rows-most)
+    (sound.cards_most, sound.shops_most, sound.rows_most)
 
 -- a buffer that is too short: the choice, the sheet, the scratch
 pub returns-then-choice-rows : goal.returns-then-choice-rows

@@ -15,7 +15,7 @@ use Rattle.jointables.proofs.write_files.Goals.{After-length_at}
 pub overflow_add-spot : goal.overflow_add-spot
 overflow_add-spot c =
     let G = c.requires in
-    omega (arith, G.shape.cards, G.read.all.cards-most)
+    omega (arith, G.shape.cards, G.read.all.cards_most)
 
 pub loop-k-init : goal.loop-k-init
 loop-k-init c =

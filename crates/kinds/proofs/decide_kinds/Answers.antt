@@ -22,7 +22,7 @@ returns-then-layout-eq0 c = empty-settlement second_terms _ _ _ _ _ (omega (arit
 pub shape_of_kinds-sh-requires : goal.shape_of_kinds-sh-requires
 shape_of_kinds-sh-requires c =
     let sound = c.requires.sound in
-    (sound.cards-most, sound.shops-most, sound.rows-most)
+    (sound.cards_most, sound.shops_most, sound.rows_most)
 
 pub write_tables-requires : goal.write_tables-requires
 write_tables-requires c =

@@ -2,7 +2,7 @@
 -- the same the one label tells it.
 use native.Mathlib.Omega.{arith}
 use Rattle.theory.proofs.ResidualLaws.{card-below, shop-below}
-use Rattle.labels.proofs.ReadLaws.{code-mixed, code-source, code-sink, code-rest}
+use Rattle.labels.proofs.ReadLaws.{code-mixed, code-source, code-sink, code_rest}
 use Rattle.labels.proofs.code_at.Goals as goal
 
 pub label-a-requires : goal.label-a-requires
@@ -38,6 +38,6 @@ returns-then-a-eq-TO_SINK c =
 
 pub returns : goal.returns
 returns c =
-    code-rest _ _ _ c.weight.ensures c.card.ensures c.shop.ensures c.label-a.ensures
+    code_rest _ _ _ c.weight.ensures c.card.ensures c.shop.ensures c.label-a.ensures
     c.label-b.ensures (omega (arith, c.if-weight-toll.false)) (λ e. omega (arith, c.if-a-eq-FROM_SOURCE.false))
     (λ e. omega (arith, c.if-a-eq-TO_SINK.false)) (omega arith)

@@ -7,7 +7,7 @@ use mathlib.Core.Bool.{not}
 use Rattle.theory.specs.Network.{Network}
 use Rattle.scratch.specs.View.{net_of}
 use Rattle.look.proofs.ReachLaws.{arc-row, arc-child}
-use Rattle.look.proofs.StepLaws.{looked-as, pick_yes, pick_no, item-down, item-row, ends-card, ends-shop, at-shop}
+use Rattle.look.proofs.StepLaws.{looked-as, pick_yes, pick_no, item-down, item-row, ends-card, ends-shop, at_shop}
 use Rattle.look.proofs.look_item.Goals as goal
 use Rattle.look.proofs.look_item.Goals.{Start}
 
@@ -57,7 +57,7 @@ look_row-requires-then-back c =
 pub returns-then-back : goal.returns-then-back
 returns-then-back c =
     let row = c.if-rows-j.false in
-    looked-as (at-shop c.requires.at_item row c.card-a.ensures c.shop-b.ensures c.if-a-u.false) (arc-row (net (goal.at.returns-then-back c).Start) c.args.back row)
+    looked-as (at_shop c.requires.at_item row c.card-a.ensures c.shop-b.ensures c.if-a-u.false) (arc-row (net (goal.at.returns-then-back c).Start) c.args.back row)
     c.look_row-then-back.ensures
 
 pub look_row-requires-then-a-u-2 : goal.look_row-requires-then-a-u-2
@@ -90,5 +90,5 @@ look_row-requires-2 c =
 pub returns : goal.returns
 returns c =
     let row = c.if-rows-j.false in
-    looked-as (at-shop c.requires.at_item row c.card-a.ensures c.shop-b.ensures c.if-a-u-2.false) (arc-row (net (goal.at.returns c).Start) c.args.back row)
+    looked-as (at_shop c.requires.at_item row c.card-a.ensures c.shop-b.ensures c.if-a-u-2.false) (arc-row (net (goal.at.returns c).Start) c.args.back row)
     c.look_row-2.ensures

@@ -44,7 +44,7 @@ pub loop-h-smaller-then-n-m : goal.loop-h-smaller-then-n-m
 loop-h-smaller-then-n-m c =
     let B = c.requires in
     let G = c.loop-h.invariant.0 B in
-    omega (arith, told (goal.at.loop-h-smaller-then-n-m c).In-loop-h, going-most B.asked G, G.in-high)
+    omega (arith, told (goal.at.loop-h-smaller-then-n-m c).In-loop-h, going-most B.asked G, G.in_high)
 
 pub loop-h-preserved-then-n-m : goal.loop-h-preserved-then-n-m
 loop-h-preserved-then-n-m c = (
@@ -90,7 +90,7 @@ pub loop-h-smaller : goal.loop-h-smaller
 loop-h-smaller c =
     let B = c.requires in
     let G = c.loop-h.invariant.0 B in
-    omega (arith, told (goal.at.loop-h-smaller c).In-loop-h, going-most B.asked G, G.out-high)
+    omega (arith, told (goal.at.loop-h-smaller c).In-loop-h, going-most B.asked G, G.out_high)
 
 pub loop-h-preserved : goal.loop-h-preserved
 loop-h-preserved c = (

@@ -13,7 +13,7 @@ set_queue-requires-2 c =
     record {
       room = room-keeps (c.set_label-2.ensures.long ∙ c.set_queue.ensures.long ∙ c.set_label.ensures.long) c.requires.ready.buffers.room;
       i_bound = omega arith;
-      x_lt_half = omega (arith, c.requires.target-node, c.requires.ready.buffers.room.few.groups);
+      x_lt_half = omega (arith, c.requires.target_node, c.requires.ready.buffers.room.few.groups);
     }
 
 pub returns : goal.returns

@@ -44,9 +44,9 @@ add-sizes-requires c =
     let sound = accepted-sound (new_week a.day) _ _ here in
     let small = gathered-small a.day a.files.now a.lengths.now c.loop-k.k c.loop-k.sizes c.loop-k.invariant.1 in
     let few = (fit-lengths (length a.files.now) a.lengths.now c.requires).few in (
-      omega (arith, sound.cards-most, small.cards, few),
-      omega (arith, sound.shops-most, small.shops, few),
-      omega (arith, sound.rows-most, small.rows, few),
+      omega (arith, sound.cards_most, small.cards, few),
+      omega (arith, sound.shops_most, small.shops, few),
+      omega (arith, sound.rows_most, small.rows, few),
     )
 
 pub overflow_add-at : goal.overflow_add-at

@@ -16,7 +16,7 @@ write_closed-requires c =
     closed_on (instance_of a.file.now a.layout) a.layout.day a.choice.now a.sheet.now a.scratch.now _ _ _ _ _
     c.settle_on-settled.ensures c.in-Closed.is
     in
-    (c.requires.0, omega (arith, closed.1.choices, closed.2.choice-rest.long))
+    (c.requires.0, omega (arith, closed.1.choices, closed.2.choice_rest.long))
 
 pub returns-in-Refused : goal.returns-in-Refused
 returns-in-Refused c =

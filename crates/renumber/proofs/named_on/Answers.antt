@@ -13,7 +13,7 @@ returns-then-side-eq0 c =
         ap (λ (q : Claim). q.card) c.claim_of-claim.ensures.0,
         named-card a.file.now a.layout a.side a.c (omega arith),
       ),
-      omega (arith, c.requires.0.cards-most),
+      omega (arith, c.requires.0.cards_most),
     )
 
 pub returns : goal.returns
@@ -24,5 +24,5 @@ returns c =
         ap (λ (q : Claim). q.shop) c.claim_of-claim.ensures.0,
         named-shop a.file.now a.layout a.side a.c (omega arith),
       ),
-      omega (arith, c.requires.0.shops-most),
+      omega (arith, c.requires.0.shops_most),
     )

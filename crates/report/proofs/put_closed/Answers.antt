@@ -25,7 +25,7 @@ room : (c : Start) →
 room c =
     let a = c.args in
     closed-room a.layout.rows a.earned a.kept a.total (kind_of a.file.now a.layout) (row a.choice.now)
-    (omega (arith, c.requires.0.rows-most)) (omega arith) (omega arith) (omega arith)
+    (omega (arith, c.requires.0.rows_most)) (omega arith) (omega arith) (omega arith)
 
 pub put_first-after_first-requires : goal.put_first-after_first-requires
 put_first-after_first-requires c = omega (arith, room (goal.at.put_first-after_first-requires c).Start)

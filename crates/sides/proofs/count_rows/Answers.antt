@@ -29,7 +29,7 @@ overflow_add-counts c =
       arith,
       c.bit.ensures,
       c.requires.ready.bits c.loop-c.c (omega arith),
-      c.requires.ready.sound.rows-most,
+      c.requires.ready.sound.rows_most,
       counting-small a.file.now a.selection.now a.layout a.side c.loop-c.counts c.requires.ready.bits
           c.loop-c.c (omega arith) c.loop-c.invariant.1 c.hangs_at-g.result,
     )

@@ -29,7 +29,7 @@ returns-then-side-ne0 c =
     (is, omega (arith, is, few (goal.at.returns-then-side-ne0 c).Start))
 
 pub card_node-requires : goal.card_node-requires
-card_node-requires c = (c.requires.0, c.claim_of-claim.ensures.1, omega (arith, c.requires.0.cards-most))
+card_node-requires c = (c.requires.0, c.claim_of-claim.ensures.1, omega (arith, c.requires.0.cards_most))
 
 pub returns : goal.returns
 returns c =

@@ -29,7 +29,7 @@ put_rows-requires c =
         lines-length a.file.now a.layout c.requires.covers.sound a.selection.now a.layout.rows (omega arith),
         c.requires.counted.kept,
         c.requires.counted.few,
-        c.requires.covers.sound.rows-most,
+        c.requires.covers.sound.rows_most,
       );
     }
 

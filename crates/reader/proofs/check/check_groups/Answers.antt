@@ -5,7 +5,7 @@ use native.Mathlib.Nat.{sub-zero}
 use lib.ListN.{length}
 use Rattle.claimfile.specs.File.{group_width, record_at}
 use Rattle.claimfile.proofs.WidthLaws.{width-inside}
-use Rattle.reader.proofs.FileLaws.{no_record, record-cut, record-fault, next-record}
+use Rattle.reader.proofs.FileLaws.{no_record, record_cut, record_fault, next-record}
 use Rattle.reader.proofs.check.check_groups.Goals as goal
 use Rattle.reader.proofs.check.check_groups.Goals.{In-loop-own}
 
@@ -38,7 +38,7 @@ returns-in_default c =
     let told = c.in_default.is in
     told
     ∙ sym
-    (record-fault _ _ _ _ a.count c.loop-own.own (omega (arith, c.lesser-end.ensures)) (at-record (goal.at.returns-in_default c).In-loop-own) _
+    (record_fault _ _ _ _ a.count c.loop-own.own (omega (arith, c.lesser-end.ensures)) (at-record (goal.at.returns-in_default c).In-loop-own) _
     (sym c.check_group-checked.ensures ∙ told))
     ∙ c.loop-own.invariant.1
 
@@ -65,7 +65,7 @@ returns-then-whole-count c =
     let a = c.args in
     let last : c.loop-own.own ≡ c.whole_in-whole.result = omega (arith, c.lesser-end.ensures) in
     sym
-    (record-cut _ _ _ _ a.count c.loop-own.own (omega arith)
+    (record_cut _ _ _ _ a.count c.loop-own.own (omega arith)
     (rw last (omega (arith, c.requires.0, c.whole_in-whole.ensures.1))))
     ∙ c.loop-own.invariant.1
 

@@ -5,7 +5,7 @@ use native.Mathlib.Nat.{sub-zero}
 use Rattle.claimfile.specs.File.{claim_at}
 use Rattle.reader.specs.Reading.{claim_fault}
 use Rattle.claimfile.specs.declared.Claim.{Claim}
-use Rattle.reader.proofs.FileLaws.{no_record, record-cut, record-fault, next-record}
+use Rattle.reader.proofs.FileLaws.{no_record, record_cut, record_fault, next-record}
 use Rattle.reader.proofs.check.check_rows.Goals as goal
 use Rattle.reader.proofs.check.check_rows.Goals.{After-check_claim-checked}
 
@@ -30,7 +30,7 @@ returns-in_default c =
     let told = c.in_default.is in
     told
     ∙ sym
-    (record-fault _ _ _ _ a.count c.loop-c.c (omega (arith, c.lesser-end.ensures))
+    (record_fault _ _ _ _ a.count c.loop-c.c (omega (arith, c.lesser-end.ensures))
     (omega (arith, c.lesser-end.ensures)) _ (sym (judged (goal.at.returns-in_default c).After-check_claim-checked) ∙ told))
     ∙ c.loop-c.invariant.1
 
@@ -56,7 +56,7 @@ pub returns-then-whole-count : goal.returns-then-whole-count
 returns-then-whole-count c =
     let a = c.args in
     sym
-    (record-cut _ _ _ _ a.count c.loop-c.c (omega (arith, c.lesser-end.ensures))
+    (record_cut _ _ _ _ a.count c.loop-c.c (omega (arith, c.lesser-end.ensures))
     (omega (arith, c.lesser-end.ensures)))
     ∙ c.loop-c.invariant.1
 

@@ -25,7 +25,7 @@ overflow_add-dues c =
       c.row_price.ensures,
       P.small (card_of c.args.sh (scratch₀ (goal.at.overflow_add-dues c).Start) c.args.c),
       P.small (shop_of c.args.sh (scratch₀ (goal.at.overflow_add-dues c).Start) c.args.c),
-      P.small-toll,
+      P.small_toll,
     )
 
 -- the row is kept

@@ -21,7 +21,7 @@ overflow_add-tight c =
       c.row_price.ensures,
       P.small (card_of c.args.sh (scratch₀ (goal.at.overflow_add-tight c).Start) c.args.c),
       P.small (shop_of c.args.sh (scratch₀ (goal.at.overflow_add-tight c).Start) c.args.c),
-      P.small-toll,
+      P.small_toll,
     )
 
 pub hang-requires : goal.hang-requires

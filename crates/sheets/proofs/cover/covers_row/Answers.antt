@@ -37,7 +37,7 @@ price_of-price-requires c =
 
 pub power-requires : goal.power-requires
 power-requires c = (
-  c.requires.0.sound.rows-most,
+  c.requires.0.sound.rows_most,
   omega (arith, ap (λ (x : Claim). x.kind) c.claim_of-claim.ensures.0, c.requires.0.kinds c.args.c c.requires.2),
 )
 
