@@ -5,7 +5,8 @@ usage: python3 tools/respell_fields.py        at the top of the repository, once
 
 `cards-most` becomes `cards_most`: a field is a label, spelled as in Rust. A dash stays in the name of a lemma, where it joins two names. A field is
 turned wherever its name stands, in every .antt file, in clauses and ghost items of .rt files and in the texts of must-fail edits. Where a
-definition has the new name already (SHARED), only projections and labels of records are turned, and a lemma of the field's name keeps its dash.
+definition has the new name already (SHARED), only projections, labels of records and what a record's declaration says of its own fields are
+turned, and a lemma of the field's name keeps its dash.
 """
 import os
 import re
@@ -44,23 +45,34 @@ def fields(text):
             yield m.group(1)
 
 
-def labels(text):
-    """Where labels of record literals and fields of record declarations begin."""
-    stack, inside, start = [], None, 0
+def own(text):
+    """Where a record's declaration names its own fields: their places in the text."""
+    inside, start, mine = None, 0, set()
     for line in text.split("\n"):
         code = line.split("--")[0]
         indent = len(code) - len(code.lstrip())
-        if not stack:
-            if RECORD.match(code):
-                inside = indent
-            elif inside is not None and code.strip() and indent <= inside:
-                inside = None
-        m = FIELD.match(code)
-        if m and inside is not None and not stack:
-            yield start + m.start(1)
+        if RECORD.match(code):
+            inside, mine = indent, set()
+        elif inside is not None and code.strip() and indent <= inside:
+            inside = None
+        if inside is not None:
+            m = FIELD.match(code)
+            if m:
+                mine.add(m.group(1))
+            for t in TOKEN.finditer(code):
+                if t.group(0) in mine:
+                    yield start + t.start()
+        start += len(line) + 1
+
+
+def labels(text):
+    """Where labels of record literals begin."""
+    stack, start = [], 0
+    for line in text.split("\n"):
+        code = line.split("--")[0]
         for i, c in enumerate(code):
             if c in "([{":
-                stack.append((c, bool(re.search(r"record[^{}()]*$", code[:i])) if c == "{" else False, True))
+                stack.append((c, c == "{" and bool(re.search(r"record[^{}()]*$", code[:i])), True))
             elif c in ")]}":
                 if stack:
                     stack.pop()
@@ -81,7 +93,7 @@ def main():
     count = 0
     for p in files(".antt", ".rt", ".edit"):
         text = read(p)
-        at = set(labels(text)) if p.endswith(".antt") else set()
+        at = set(labels(text)) | set(own(text)) if p.endswith(".antt") else set()
 
         def one(m):
             word = m.group(0)
