@@ -1,7 +1,7 @@
 #!/usr/bin/env python3
 """Brings the definitions and lemmas of this repository to snake case.
 
-usage: python3 tools/respell.py        at the top of the repository, once, after /opt/rattle/port/port.py
+usage: python3 tools/respell.py        at the top of the repository, once, after the kit's port/port.py
 
 `keptOf` becomes `kept_of`. A name is turned where a file of specs/ or proofs/ declares it (or where it is one of LOCAL), in every .antt file,
 and in the clauses, ghost items and comments of every .rt file; text in quotes stays. Lemmas that would have a definition's name get `_lem`
@@ -36,6 +36,7 @@ def snake(name):
 
 
 def files(ending):
+    """The files below crates/ whose names end so; several endings are a tuple."""
     for folder, dirs, names in os.walk("crates"):
         dirs[:] = sorted(d for d in dirs if d != "out")
         for f in sorted(names):

@@ -8,26 +8,14 @@ turned wherever its name stands, in every .antt file, in clauses and ghost items
 definition has the new name already (SHARED), only projections, labels of records and what a record's declaration says of its own fields are
 turned, and a lemma of the field's name keeps its dash.
 """
-import os
 import re
+
+from respell import TOKEN, files, read
 
 FIELD = re.compile(r"\s*(?:pub\s+)?([a-z][\w']*(?:-[\w']+)+)\s*:(?!:)")
 RECORD = re.compile(r"\s*(?:pub\s+)?record\b")
-TOKEN = re.compile(r"(?<![\w'-])[A-Za-z_][\w'-]*")
+# Fields whose new names are those of definitions.
 SHARED = {"card-held", "after-cards", "after-shops", "card-node", "shop-node", "from-source", "to-sink"}
-
-
-def files(*endings):
-    for folder, dirs, names in os.walk("crates"):
-        dirs[:] = sorted(d for d in dirs if d != "out")
-        for f in sorted(names):
-            if f.endswith(endings):
-                yield os.path.join(folder, f)
-
-
-def read(path):
-    with open(path, encoding="utf-8") as f:
-        return f.read()
 
 
 def fields(text):
@@ -91,7 +79,7 @@ def main():
     for p in files(".antt"):
         names |= set(fields(read(p)))
     count = 0
-    for p in files(".antt", ".rt", ".edit"):
+    for p in files((".antt", ".rt", ".edit")):
         text = read(p)
         at = set(labels(text)) | set(own(text)) if p.endswith(".antt") else set()
 
