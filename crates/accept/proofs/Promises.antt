@@ -24,22 +24,19 @@ use Rattle.theory.proofs.LevelLaws.{choice-fits}
 use Rattle.theory.proofs.PriorityLaws.{worth-lex, two-lex}
 use Rattle.claimfile.specs.declared.Form.{Form}
 use Rattle.claimfile.specs.declared.Layout.{Layout}
-use Rattle.reader.specs.declared.Reading.{Reading}
-use Rattle.reader.specs.declared.Reading.TheVariants as reading-is
 use Rattle.claimfile.specs.File.{as_stored}
-use Rattle.reader.specs.Reading.{reading}
+use Rattle.reader.specs.Reading.{reading, Reading}
 use Rattle.claimfile.specs.Day.{kind_of, limit_of, network_of, instance_of}
 use Rattle.reader.proofs.AcceptedLaws.{accepted-sound, accepted-kinds}
 use Rattle.reader.proofs.StoredLaws.{new-stored}
 use Rattle.closing.specs.Settle.{mark_of, claim_mark_of, Settles}
-use Rattle.closing.specs.declared.Settled.{Settled}
-use Rattle.closing.specs.declared.Settled.TheVariants.{Closed}
 use Rattle.closing.specs.declared.Totals.{Totals}
 use Rattle.closing.proofs.Demand as demand
 use Rattle.closing.proofs.SettleLaws.{day-formed}
-use Rattle.accept.specs.declared.Verdict.{Verdict}
 use Rattle.sheets.specs.Sheet.{weights}
 use Rattle.accept.specs.Accept.{verdict_by, verdict, verdict_number, Accepts, Acceptable, Judges}
+use Rattle.std.specs.Prelude.{Ok, Result}
+use Rattle.refusal.specs.declared.Reason.{Reason}
 
 -- whoever made the sheet
 module _
@@ -74,7 +71,7 @@ module _
           | inr h ↦ h.1
         ]
 
-module _ (f : Form) (s ch sheet : List ℕ) (v : Verdict) (J : Judges f s ch sheet v) (told : verdict_number v ≡ 0) where
+module _ (f : Form) (s ch sheet : List ℕ) (v : Result (Unit {0}) Reason) (J : Judges f s ch sheet v) (told : verdict_number v ≡ 0) where
   abbrev closing : Acceptable f s ch sheet
   closing = J.means.0 told
 
@@ -93,8 +90,8 @@ module _ (f : Form) (s ch sheet : List ℕ) (v : Verdict) (J : Judges f s ch she
         most-rows (instance_of s l) formed two ch sheet closing.accepts Y fits,
       )
 
-module _ (f : Form) (s ch sheet t ch' sheet' t' : List ℕ) (r : Settled) (a : Totals) where
-  pub ours : Settles f s ch sheet t ch' sheet' t' r → r ≡ Closed a → Acceptable f s ch' sheet'
+module _ (f : Form) (s ch sheet t ch' sheet' t' : List ℕ) (r : Result Totals Reason) (a : Totals) where
+  pub ours : Settles f s ch sheet t ch' sheet' t' r → r ≡ Ok a → Acceptable f s ch' sheet'
   ours S is =
       let d = demand.closed-day f s ch sheet t ch' sheet' t' r a S is in
       record {
@@ -111,11 +108,11 @@ module _ (f : Form) (s ch sheet t ch' sheet' t' : List ℕ) (r : Settled) (a : T
       }
 
   pub ours-told :
-      Settles f s ch sheet t ch' sheet' t' r → r ≡ Closed a → (v : Verdict) → Judges f s ch' sheet' v → verdict_number v ≡ 0
+      Settles f s ch sheet t ch' sheet' t' r → r ≡ Ok a → (v : Result (Unit {0}) Reason) → Judges f s ch' sheet' v → verdict_number v ≡ 0
   ours-told S is v J = J.means.1 (ours S is)
 
 pub accept-same :
-    (f : Form) (s : List ℕ) (l : Layout) → reading f s ≡ reading-is.Accepted l →
+    (f : Form) (s : List ℕ) (l : Layout) → reading f s ≡ Ok l →
     (ch sheet : List ℕ) → verdict f s ch sheet ≡ verdict (as_stored f) s ch sheet
 unfolding verdict
 accept-same f s l is ch sheet = ap (λ (x : Reading). verdict_by s x ch sheet) (is ∙ sym (new-stored f s l is))

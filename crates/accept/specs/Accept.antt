@@ -14,25 +14,22 @@
 --   Judges f s ch sheet r  the whole contract: r is that verdict, in document 01's number too, and it is 0 exactly where the
 --                          closing is acceptable
 -- Marks are numbers of 32 bits, and sums are true sums: the definitions are over all numbers.
-use Rattle.std.specs.Prelude.{◌≡◌, ◌↔◌, List, ℕ, ◌≤◌, ◌<◌, ltb, leb, eqb, length}
+use Rattle.std.specs.Prelude.{◌≡◌, ◌↔◌, List, ℕ, ◌≤◌, ◌<◌, ltb, leb, eqb, length, Ok, Err, Result}
 use Rattle.theory.specs.Sum.{pick}
 use Rattle.theory.specs.Incidence.{Covers, worth}
 use Rattle.theory.specs.Matroid.{row}
 use Rattle.theory.specs.Network.{Instance, Choice, on_both, fits_both}
 use Rattle.claimfile.specs.File.{days}
-use Rattle.reader.specs.Reading.{reading}
+use Rattle.reader.specs.Reading.{reading, Reading}
 use Rattle.claimfile.specs.Day.{network_of, instance_of}
 use Rattle.claimfile.specs.declared.Form.{Form}
 use Rattle.claimfile.specs.declared.Layout.{Layout}
-use Rattle.reader.specs.declared.Reading.{Reading}
-use Rattle.reader.specs.declared.Reading.TheVariants as reading-is
 use Rattle.refusal.specs.declared.Reason.TheVariants.{File, Short, Day, Value, Unfit, Uncovered, Unequal}
-use Rattle.refusal.specs.Table.{number_of}
+use Rattle.refusal.specs.Table.{outcome_number}
 use Rattle.selection.specs.Selection.{bits}
 use Rattle.closing.specs.Settle.{needed, mark_of, claim_mark_of}
 use Rattle.sheets.specs.Sheet.{weights, sheet_total, covered}
-use Rattle.accept.specs.declared.Verdict.{Verdict}
-use Rattle.accept.specs.declared.Verdict.TheVariants.{Accepted, Refused}
+use Rattle.refusal.specs.declared.Reason.{Reason}
 
 module _ (i : Instance) where
   abbrev pub weight_kept : List ℕ → ℕ
@@ -45,42 +42,41 @@ module _ (i : Instance) where
     pub equal : sheet_total i sheet ≡ weight_kept ch
 
   -- "13, the choice does not fit; 14, a claim is not covered; 15, the totals differ; judged in this order"
-  unfoldable pub judged : List ℕ → List ℕ → Verdict
+  unfoldable pub judged : List ℕ → List ℕ → Result (Unit {0}) Reason
   judged ch sheet =
       pick (fits_both i.net i.limit (row ch))
       (pick (covered i sheet)
-      (pick (eqb (sheet_total i sheet) (weight_kept ch)) Accepted (Refused Unequal))
-      (Refused Uncovered))
-      (Refused Unfit)
+      (pick (eqb (sheet_total i sheet) (weight_kept ch)) (Ok tt) (Err Unequal))
+      (Err Uncovered))
+      (Err Unfit)
 
 -- "after 9": the choice is read as a selection
-abbrev pub verdict_by : List ℕ → Reading → List ℕ → List ℕ → Verdict
-verdict_by s (reading-is.Refused why) ch sheet = Refused (File why)
-verdict_by s (reading-is.Accepted l) ch sheet =
+abbrev pub verdict_by : List ℕ → Reading → List ℕ → List ℕ → Result (Unit {0}) Reason
+verdict_by s (Err why) ch sheet = Err (File why)
+verdict_by s (Ok l) ch sheet =
     pick (ltb (length ch) l.rows)
-    (Refused Short)
+    (Err Short)
     (pick (ltb (length sheet) (needed (network_of s l)))
-    (Refused Short)
+    (Err Short)
     (pick (leb days l.day)
-    (Refused Day)
-    (pick (bits l.rows ch) (judged (instance_of s l) ch sheet) (Refused Value))))
+    (Err Day)
+    (pick (bits l.rows ch) (judged (instance_of s l) ch sheet) (Err Value))))
 
-unfoldable pub verdict : Form → List ℕ → List ℕ → List ℕ → Verdict
+unfoldable pub verdict : Form → List ℕ → List ℕ → List ℕ → Result (Unit {0}) Reason
 verdict f s ch sheet = verdict_by s (reading f s) ch sheet
 
-abbrev pub verdict_number : Verdict → ℕ
-verdict_number Accepted = 0
-verdict_number (Refused why) = number_of why
+abbrev pub verdict_number : Result (Unit {0}) Reason → ℕ
+verdict_number = outcome_number
 
 pub record Acceptable (f : Form) (s ch sheet : List ℕ) : Type 0 where
   pub layout : Layout
-  pub accepted : reading f s ≡ reading-is.Accepted layout
+  pub accepted : reading f s ≡ Ok layout
   pub choices : layout.rows ≤ length ch
   pub sheets : needed (network_of s layout) ≤ length sheet
   pub known : layout.day < days
   pub accepts : Accepts (instance_of s layout) ch sheet
 
-pub record Judges (f : Form) (s ch sheet : List ℕ) (r : Verdict) : Type 0 where
+pub record Judges (f : Form) (s ch sheet : List ℕ) (r : Result (Unit {0}) Reason) : Type 0 where
   pub is : r ≡ verdict f s ch sheet
   pub told : verdict_number r ≡ verdict_number (verdict f s ch sheet)
   pub means : (verdict_number r ≡ 0) ↔ Acceptable f s ch sheet

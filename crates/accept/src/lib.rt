@@ -6,26 +6,24 @@
 // all the memory.
 #![tactic(auto)]
 
-ghost use Rattle.std.specs.Prelude.{true, ◌≡◌};
+ghost use Rattle.std.specs.Prelude.{true, ◌≡◌, Ok};
 ghost use Rattle.theory.specs.Matroid.{row};
 ghost use Rattle.theory.specs.Network.{fits_both};
 ghost use Rattle.claimfile.specs.Day.{limit_of, network_of, instance_of};
 ghost use Rattle.claimfile.specs.File.{first_terms};
 ghost use Rattle.claimfile.specs.Sound.{Sound, Kinds};
 ghost use Rattle.closing.specs.Close.{Countable};
-ghost use Rattle.reader.specs.declared.Reading.TheVariants.{Accepted};
 ghost use Rattle.sides.specs.Ready.{Ready};
-ghost use Rattle.accept.specs.Accept.{judged, weight_kept, verdict_by, verdict_number, Judges};
+ghost use Rattle.accept.specs.Accept.{judged, weight_kept, verdict_by, Judges};
 ghost use Rattle.accept.specs.Judgeable.{Judgeable};
 
 use claimfile::{DAYS, Form, Layout};
 use closing::{marks_of, totals_of};
 use instance::{CARD_SIDE, SHOP_SIDE};
-use reader::{Reading, read};
-use refusal::{Reason, number};
+use reader::read;
+use refusal::Reason;
 use selection::all_bits;
 use sheets::cover::is_covered;
-use sheets::long;
 use sheets::total::total_of;
 use sides::rank_on;
 use theory::MAX_GROUPS;
@@ -33,20 +31,14 @@ use theory::MAX_GROUPS;
 // A cell for each group of both sides, and one for each root.
 const NODES: usize = 2 * MAX_GROUPS + 2;
 
-// What is found of a closing: it is accepted, or why not.
-#[derive(Clone, Copy)]
-pub enum Verdict {
-    Accepted,
-    Refused(Reason),
-}
-
 // The weight of the kept rows.
 fn weight_kept(file: &[u8], layout: Layout, choice: &[u8]) -> u64
     requires { Countable first_terms file.now layout choice.now }
     ensures { result ≡ weight_kept (instance_of file.now layout) choice.now }
 {
     let totals = totals_of(file, layout, choice);
-    long(totals.total)
+    // stays: the new form is no plainer: as in Rust, the library has no `From` from usize to u64, and no bit is lost here.
+    totals.total as u64
 }
 
 // Whether a choice fits both sides.
@@ -60,70 +52,57 @@ fn fits_both(file: &[u8], layout: Layout, choice: &[u8]) -> bool
 }
 
 // Judges the sheet of a closing whose choice fits.
-fn judge_sheet(file: &[u8], layout: Layout, choice: &[u8], sheet: &[u32]) -> Verdict
+fn judge_sheet(file: &[u8], layout: Layout, choice: &[u8], sheet: &[u32]) -> Result<(), Reason>
     requires { (Judgeable file.now layout choice.now sheet.now) × (fits_both (network_of file.now layout) (limit_of file.now layout) (row choice.now) ≡ true) }
     ensures { result ≡ judged (instance_of file.now layout) choice.now sheet.now }
 {
     let mut cells = [0u16; NODES];
     if !is_covered(file, layout, sheet, &mut cells) {
-        return Verdict::Refused(Reason::Uncovered);
+        return Err(Reason::Uncovered);
     }
     if total_of(file, layout, sheet, &mut cells) != weight_kept(file, layout, choice) {
-        return Verdict::Refused(Reason::Unequal);
+        return Err(Reason::Unequal);
     }
-    Verdict::Accepted
+    Ok(())
 }
 
 // Judges the closing of an accepted file.
-fn judge(file: &[u8], layout: Layout, choice: &[u8], sheet: &[u32]) -> Verdict
+fn judge(file: &[u8], layout: Layout, choice: &[u8], sheet: &[u32]) -> Result<(), Reason>
     requires { Judgeable file.now layout choice.now sheet.now }
     ensures { result ≡ judged (instance_of file.now layout) choice.now sheet.now }
 {
     if fits_both(file, layout, choice) {
         return judge_sheet(file, layout, choice, sheet);
     }
-    Verdict::Refused(Reason::Unfit)
+    Err(Reason::Unfit)
 }
 
 // Judges a choice and a sheet that were sent with an accepted file.
-pub fn accept_on(file: &[u8], layout: Layout, choice: &[u8], sheet: &[u32]) -> Verdict
+pub fn accept_on(file: &[u8], layout: Layout, choice: &[u8], sheet: &[u32]) -> Result<(), Reason>
     requires { (Sound file.now layout) × (Kinds first_terms file.now layout) }
-    ensures { result ≡ verdict_by file.now (Accepted layout) choice.now sheet.now }
+    ensures { result ≡ verdict_by file.now (Ok layout) choice.now sheet.now }
 {
     let rows = layout.rows;
     let marks = marks_of(layout);
     if choice.len() < rows {
-        return Verdict::Refused(Reason::Short);
+        return Err(Reason::Short);
     }
     if sheet.len() < marks {
-        return Verdict::Refused(Reason::Short);
+        return Err(Reason::Short);
     }
     if DAYS <= layout.day {
-        return Verdict::Refused(Reason::Day);
+        return Err(Reason::Day);
     }
     if all_bits(choice, rows) {
         return judge(file, layout, choice, sheet);
     }
-    Verdict::Refused(Reason::Value)
+    Err(Reason::Value)
 }
 
 // Judges a closing: a file in a form, with the choice and the sheet that were sent with it.
-pub fn accept(file: &[u8], form: Form, choice: &[u8], sheet: &[u32]) -> Verdict
+pub fn accept(file: &[u8], form: Form, choice: &[u8], sheet: &[u32]) -> Result<(), Reason>
     ensures { Judges form file.now choice.now sheet.now result }
 {
-    let reading = read(file, form);
-    match reading {
-        Reading::Refused(why) => Verdict::Refused(Reason::File(why)),
-        Reading::Accepted(layout) => accept_on(file, layout, choice, sheet),
-    }
-}
-
-// The number of a verdict: that of the refusal, or 0 where the closing is accepted.
-pub fn verdict_number(verdict: Verdict) -> u32
-    ensures { result ≡ verdict_number verdict }
-{
-    match verdict {
-        Verdict::Accepted => 0,
-        Verdict::Refused(why) => number(why),
-    }
+    let layout = read(file, form)?;
+    accept_on(file, layout, choice, sheet)
 }

@@ -23,7 +23,7 @@ use borrow.Author.Tests.{lt-ltb, le-ltb}
 use Rattle.theory.specs.Bounds.{max_groups}
 use Rattle.theory.specs.Sum.{every}
 use Rattle.claimfile.specs.File.{days, columns, word, limit_at, group_at}
-use Rattle.reader.specs.Reading.{or_else, none_above, group_fault, groups_from}
+use Rattle.reader.specs.Reading.{or_else, none_above, group_fault, groups_from, Checked}
 use Rattle.reader.specs.Reading.{count_fault, section_of, section_by, section_at}
 use Rattle.claimwriter.specs.Written.{on_day_of, bytes_of, group_bytes, records, section}
 use Rattle.claimwriter.specs.Widened.{seven_days, widen_record, widen_records, widen_section}
@@ -31,13 +31,12 @@ use Rattle.claimwriter.specs.Put.{Holds}
 use Rattle.claimfile.specs.declared.Form.{Form}
 use Rattle.reader.specs.declared.Refusal.{Refusal}
 use Rattle.reader.specs.declared.Refusal.TheVariants.{GroupCount}
-use Rattle.reader.specs.declared.Checked.{Checked}
-use Rattle.reader.specs.declared.Checked.TheVariants.{Fine}
 use Rattle.claimfile.specs.declared.Group.{Group}
 use Rattle.reader.proofs.AcceptedLaws.{section-read}
 use Rattle.reader.proofs.SectionLaws.{records-same, fault-alike, word-part}
 use Rattle.claimwriter.proofs.PutLaws.{holds-first, holds-second, holds-record, records-length, group-length}
 use Rattle.claimwriter.proofs.WrittenLaws.{word_back, group-back, section-length}
+use Rattle.std.specs.Prelude.{Ok}
 
 --------------------------------------------------------------------------------
 -- The bytes of a widened section, of the part of s that starts at a place
@@ -305,7 +304,7 @@ module _
         count-alike (λ whole. (counted whole, records-alike whole))
 
     pub follows-groups :
-        groups_checked (record { week = false; stored = stored; day = day }) s a ≡ Fine →
+        groups_checked (record { week = false; stored = stored; day = day }) s a ≡ Ok tt →
         Follows next s (a + 2 + 4 * word s a) t (b + 2 + 16 * word s a)
     unfolding section_at
     follows-groups fine = record { part = part; inside = inside; room = omega (arith, size n (omega arith) inside) }

@@ -12,7 +12,7 @@ use native.Mathlib.Omega.{arith}
 use lib.ListN.{length, drop, length-drop}
 use Rattle.theory.specs.Bounds.{max_rows}
 use Rattle.claimfile.specs.File.{first_terms, column_of, group_width, claim_width, word}
-use Rattle.reader.specs.Reading.{claim_fault, rows_from}
+use Rattle.reader.specs.Reading.{read_section, claim_fault, rows_from, Reading}
 use Rattle.reader.specs.Reading.{section_at, claims_at, reading}
 use Rattle.reader.specs.Sections.{behind, place_on, OwnBytes, with_rows}
 use Rattle.claimfile.specs.Day.{count_of, group_of, claims, claim_of, named_card, named_shop, kind_of}
@@ -20,10 +20,6 @@ use Rattle.claimfile.specs.Sound.{Sound}
 use Rattle.claimwriter.specs.Put.{row_count_place}
 use Rattle.claimfile.specs.declared.Form.{Form}
 use Rattle.reader.specs.declared.Refusal.TheVariants.{ClaimCount}
-use Rattle.reader.specs.declared.Checked.TheVariants.{Fine}
-use Rattle.reader.specs.declared.Section.TheVariants.{Read}
-use Rattle.reader.specs.declared.Reading.{Reading}
-use Rattle.reader.specs.declared.Reading.TheVariants.{Accepted}
 use Rattle.claimfile.specs.declared.Layout.{Layout}
 use Rattle.reader.proofs.FileLaws.{claim-passes, records-pass, accepted}
 use Rattle.claimfile.proofs.WidthLaws.{width-split, width-inside, column-small}
@@ -31,11 +27,12 @@ use Rattle.reader.proofs.AcceptedLaws.{accepted-week, accepted-day, accepted-sec
 use Rattle.reader.proofs.SectionLaws.{group-own, section-own}
 use Rattle.claimwriter.proofs.PutLaws.{same-cell}
 use Rattle.claimwriter.proofs.WrittenLaws.{section-passes}
+use Rattle.std.specs.Prelude.{Ok}
 
 -- the same places
 abbrev placed : Bool → ℕ → Layout → ℕ → ℕ → ℕ → ℕ → Reading
 placed week day l n a b c =
-    Accepted
+    Ok
     (record {
       week = week;
       day = day;
@@ -52,7 +49,7 @@ layout-same :
     placed v d l n a b c ≡ placed w e l n x y z
 layout-same l n v w d e a b c x y z o m p q r = rw (o, m, p, q, r)
 
-module _ (f : Form) (s : List ℕ) (l : Layout) (is : reading f s ≡ Accepted l) where
+module _ (f : Form) (s : List ℕ) (l : Layout) (is : reading f s ≡ Ok l) where
   sound : Sound s l
   sound = accepted-sound f s l is
 
@@ -115,13 +112,13 @@ module _ (f : Form) (s : List ℕ) (l : Layout) (is : reading f s ≡ Accepted l
         places =
             (sound.card_place, omega (arith, shops-place, wide_is l.cards), omega (arith, rows-place, wide_is l.shops))
 
-        card-section : section_at f t 0 ≡ Read l.cards (0 + 2) next
+        card-section : section_at f t 0 ≡ Ok (read_section l.cards (0 + 2) next)
         card-section =
             section-own f s t 0 0 l.cards l.card_at _ (accepted-sections f s l is 0 (omega arith))
             (own-from 0 (2 + group_width f.week * l.cards) (omega (arith, places)))
             (omega (arith, long, places))
 
-        shop-section : section_at f t next ≡ Read l.shops (next + 2) after
+        shop-section : section_at f t next ≡ Ok (read_section l.shops (next + 2) after)
         shop-section =
             let place : next ≡ place_on f s 1 =
             sym (ap behind (accepted-sections f s l is 0 (omega arith)) ∙ omega (arith, sound.card_place, wide_is l.cards)) in
@@ -139,21 +136,21 @@ module _ (f : Form) (s : List ℕ) (l : Layout) (is : reading f s ≡ Accepted l
         count-here : word t after ≡ n
         count-here = ap (word t) behind-groups ∙ counted
 
-        rows-fine : rows_from first_terms (claims t m) l.cards l.shops 0 n ≡ Fine
+        rows-fine : rows_from first_terms (claims t m) l.cards l.shops 0 n ≡ Ok tt
         rows-fine =
             records-pass (length (claims t m)) 0 claim_width (λ c. claim_fault first_terms (claim_of t m c) l.cards l.shops) n
             (λ c h. omega (arith, long, length-drop l.row_at t))
             (λ c h. claim-passes first_terms (claim_of t m c) l.cards l.shops (cards c h) (shops c h) (omega (arith, kinds c h))) n 0
             (omega arith)
 
-        claim-section : claims_at first_terms t after l.cards l.shops ≡ Read n (after + 2) (after + 2 + claim_width * n)
+        claim-section : claims_at first_terms t after l.cards l.shops ≡ Ok (read_section n (after + 2) (after + 2 + claim_width * n))
         unfolding claims_at
         claim-section =
             section-passes t after max_rows ClaimCount claim_width _ n (after + 2) (after + 2 + claim_width * n)
             (omega (arith, long, first-row)) count-here few
             (ap₂ (λ (a k : ℕ). rows_from first_terms (drop a t) l.cards l.shops 0 k) first-row count-here ∙ rows-fine) refl refl
 
-        pub claims-accepted : reading f t ≡ Accepted m
+        pub claims-accepted : reading f t ≡ Ok m
         claims-accepted =
             accepted first_terms f t l.cards (0 + 2) next card-section l.shops (next + 2) after shop-section n (after + 2)
             (after + 2 + claim_width * n) claim-section (omega (arith, long, first-row))

@@ -17,13 +17,13 @@ use Rattle.claimfile.specs.declared.Form.{Form}
 use Rattle.claimfile.specs.declared.Layout.{Layout}
 use Rattle.reader.specs.Reading.{reading}
 use Rattle.reader.specs.Sections.{place_on}
-use Rattle.reader.specs.declared.Reading.TheVariants.{Accepted}
 use Rattle.reader.proofs.AcceptedLaws.{section-read, accepted-week, accepted-day, accepted-sections, accepted-sound, accepted-rows}
 use Rattle.claimwriter.specs.Written.{layout_for}
 use Rattle.claimwriter.specs.Put.{count_place, row_count_place}
+use Rattle.std.specs.Prelude.{Ok}
 
 pub count-stands :
-    (f : Form) (s : List ℕ) (l : Layout) → reading f s ≡ Accepted l → (side : ℕ) → side < 2 →
+    (f : Form) (s : List ℕ) (l : Layout) → reading f s ≡ Ok l → (side : ℕ) → side < 2 →
     word s (count_place l side) ≡ count_of l side
 count-stands f s l is side few =
     let taken = section-read s (place_on f s side) (count_of l side) (start_of l side) _ f (accepted-sections f s l is side few) in
@@ -31,7 +31,7 @@ count-stands f s l is side few =
     ap (word s) place ∙ sym taken.counted
 
 -- the counts of a new file in the week layout, read one after the other
-module _ (day : ℕ) (s : List ℕ) (l : Layout) (is : reading (new_week day) s ≡ Accepted l) where
+module _ (day : ℕ) (s : List ℕ) (l : Layout) (is : reading (new_week day) s ≡ Ok l) where
   sound : Sound s l
   sound = accepted-sound (new_week day) s l is
 

@@ -6,27 +6,24 @@
 --   records-same           the same records give the same bytes
 --   group-length group-same    how many bytes a group's record has, and that the same record gives the same
 --   bytes-append bytes_word bytes-records    each cell is a byte
---   put_byte put_then put_word    one byte, two runs of bytes one behind the other, a 16-bit number
+--   put_then               two runs of bytes, one behind the other
 --   put-none put-more      records of one width, one behind the other
 --   Apart                  two runs of bytes do not overlap
 --   put_holds put-past     what stands apart from the bytes that are put stays, and so does what is left behind them
---   group-room             a buffer with room for the file has room for each of its records
 use mathlib.Core.Bool.{true}
 use mathlib.Core.Path.{◌≡◌, refl, sym, ap, ap₂, ◌∙◌}
 use mathlib.Core.Logic.{◌⊎◌, inl, inr}
-use mathlib.Core.List.{List, [], ◌∷◌, ◌++◌}
-use Prim.Native.Nat.{ℕ, zero, suc, ◌+◌, ◌*◌, ◌-◌, ◌/◌, ◌%◌, ◌≤◌, ◌<◌}
+use mathlib.Core.List.{List, ◌++◌}
+use Prim.Native.Nat.{ℕ, zero, suc, ◌+◌, ◌*◌, ◌-◌, ◌≤◌, ◌<◌}
 use native.Mathlib.Decide.{dec_lt}
 use native.Mathlib.Nat.{mul-suc}
 use native.Mathlib.Numerals.{add-one}
 use native.Mathlib.Omega.{arith}
-use lib.ListN.{length, get_or, set, take, drop, length-set, length-append, length-drop, get_or-append}
-use lib.Seq.{get_or-set_same, get_or-set_other, get_or-append-add, get_or-take, get_or-drop, length-take-le, ext_get_or}
+use lib.ListN.{length, get_or, take, drop, length-append, length-drop, get_or-append}
+use lib.Seq.{get_or-append-add, get_or-take, get_or-drop, length-take-le, ext_get_or}
 use Rattle.claimfile.specs.File.{days, group_width}
-use Rattle.claimfile.specs.Day.{count_of}
 use Rattle.claimwriter.specs.Written.{WeekGroup, bytes_of, records, group_bytes, SameGroup}
-use Rattle.claimwriter.specs.Put.{Holds, Put, group_place, Room}
-use Rattle.claimfile.specs.declared.Layout.{Layout}
+use Rattle.claimwriter.specs.Put.{Holds, Put}
 
 pub same-cell : (s : List ℕ) (i j : ℕ) → i ≡ j → get_or s i 0 ≡ get_or s j 0
 same-cell s i j e = ap (λ x. get_or s x 0) e
@@ -146,19 +143,6 @@ bytes-records (suc n) f h =
 --------------------------------------------------------------------------------
 -- Bytes that are put there
 
-pub put_byte : (s : List ℕ) (at x : ℕ) → at < length s → Put s (set s at x) at (x ∷ [])
-put_byte s at x l =
-    record {
-      long = length-set s at x;
-      cells = here;
-      rest = λ i o.
-          get_or-set_other s at i x 0 (λ e. elim o [ inl h ↦ omega arith | inr h ↦ omega arith ]);
-    }
-  where
-    here : Holds (set s at x) at (x ∷ [])
-    here zero h = same-cell (set s at x) (at + 0) at (omega arith) ∙ get_or-set_same s at x 0 l
-    here (suc j) h = absurd (omega arith)
-
 -- m bytes from a on and n bytes from b on do not overlap
 abbrev pub Apart : ℕ → ℕ → ℕ → ℕ → Type 0
 Apart a m b n = (a + m ≤ b) ⊎ (b + n ≤ a)
@@ -203,17 +187,3 @@ unfolding records
 put-more width f each s t u at k p q =
     rw (add-one k)
     (put_then s t u at (at + width * k) (records k f) (f k) p (ap (λ (x : ℕ). at + x) (sym (records-length width f each k))) q)
-
-pub put_word :
-    (s : List ℕ) (at n : ℕ) → at + 2 ≤ length s → Put s (set (set s at (n % 256)) (at + 1) (n / 256)) at (bytes_of n)
-put_word s at n l =
-    let low = set s at (n % 256) in
-    put_then s low (set low (at + 1) (n / 256)) at (at + 1) (n % 256 ∷ []) (n / 256 ∷ [])
-    (put_byte s at (n % 256) (omega arith)) refl
-    (put_byte low (at + 1) (n / 256) (omega (arith, length-set s at (n % 256))))
-
-pub group-room :
-    (l : Layout) (out : List ℕ) → Room l out → (side g : ℕ) → g < count_of l side →
-    group_place l side g + group_width true ≤ length out
-group-room l out room zero g h = omega (arith, room.laid.card_place, room.long)
-group-room l out room (suc n) g h = omega (arith, room.laid.shop_place, room.long)

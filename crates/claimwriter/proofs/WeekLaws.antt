@@ -19,11 +19,11 @@ use Rattle.claimwriter.specs.Written.{Contents, records_on, TwoSided, Ranged, Pr
 use Rattle.claimwriter.specs.Week.{week_form, contents_in, as_week, week_layout}
 use Rattle.claimfile.specs.declared.Form.{Form}
 use Rattle.claimfile.specs.declared.Layout.{Layout}
-use Rattle.reader.specs.declared.Reading.TheVariants.{Accepted}
 use Rattle.reader.proofs.AcceptedLaws.{accepted-day, accepted-sound, accepted-kinds, new-below}
 use Rattle.claimfile.proofs.DayLaws.{word_small}
 use Rattle.claimwriter.proofs.WrittenLaws.{written-accepted, written-group, written-claim, written-bytes}
 use Rattle.claimfile.proofs.SameLaws.{same-day}
+use Rattle.std.specs.Prelude.{Ok}
 
 module _ (s : List ℕ) (l : Layout) where
   abbrev d : Contents
@@ -73,7 +73,7 @@ byte_past r i h = get_or-eq_default r 0 h
 word-past : (r : List ℕ) (i : ℕ) → length r ≤ i → word r i ≡ 0
 word-past r i h = omega (arith, byte_past r i h, byte_past r (i + 1) (omega arith))
 
-module _ (f : Form) (s : List ℕ) (l : Layout) (is : reading f s ≡ Accepted l) (bytes : (i : ℕ) → get_or s i 0 < 256) where
+module _ (f : Form) (s : List ℕ) (l : Layout) (is : reading f s ≡ Ok l) (bytes : (i : ℕ) → get_or s i 0 < 256) where
   abbrev t : List ℕ
   t = as_week s l
 
@@ -89,12 +89,12 @@ module _ (f : Form) (s : List ℕ) (l : Layout) (is : reading f s ≡ Accepted l
   ranged : Ranged (contents_in s l)
   ranged = contents-ranged s l sound two bytes
 
-  pub week-accepted : reading (week_form f) (as_week s l) ≡ Accepted (week_layout l)
+  pub week-accepted : reading (week_form f) (as_week s l) ≡ Ok (week_layout l)
   unfolding as_week
   week-accepted =
       written-accepted (contents_in s l) ranged f.stored f.day
       (λ new. contents-proper s l sound two bytes (new-below f s l is new))
-      ∙ ap (λ k. Accepted (on_day (week_layout l) k)) (sym (accepted-day f s l is))
+      ∙ ap (λ k. Ok (on_day (week_layout l) k)) (sym (accepted-day f s l is))
 
   pub week-bytes : (i : ℕ) → get_or (as_week s l) i 0 < 256
   unfolding as_week

@@ -20,7 +20,7 @@ use lib.Dec.{ltb}
 use borrow.Author.Tests.{lt-ltb, le-ltb}
 use Rattle.theory.specs.Bounds.{max_rows}
 use Rattle.claimfile.specs.File.{first_terms, column_of, group_width, claim_width, word, limit_at, record_at, claim_at}
-use Rattle.reader.specs.Reading.{or_else, rows_from}
+use Rattle.reader.specs.Reading.{or_else, rows_from, Checked, Reading}
 use Rattle.reader.specs.Reading.{count_fault, section_of, section_at, claims_at, after_cards, after_shops, after_claims}
 use Rattle.reader.specs.Reading.{reading_in, reading}
 use Rattle.claimfile.specs.Day.{claim_of}
@@ -32,10 +32,6 @@ use Rattle.claimwriter.specs.Widened.{widen_section, widened, widened_by}
 use Rattle.claimfile.specs.declared.Form.{Form}
 use Rattle.reader.specs.declared.Refusal.{Refusal}
 use Rattle.reader.specs.declared.Refusal.TheVariants.{ClaimCount}
-use Rattle.reader.specs.declared.Checked.{Checked}
-use Rattle.reader.specs.declared.Checked.TheVariants.{Fine, Fault}
-use Rattle.reader.specs.declared.Reading.{Reading}
-use Rattle.reader.specs.declared.Reading.TheVariants.{Accepted, Refused}
 use Rattle.claimfile.specs.declared.Layout.{Layout}
 use Rattle.reader.proofs.AcceptedLaws.{not-both, accepted-week, accepted-sound, accepted-rows}
 use Rattle.reader.proofs.SectionLaws.{word-part, cut-part}
@@ -43,6 +39,7 @@ use Rattle.claimwriter.proofs.PutLaws.{same-cell, holds-append}
 use Rattle.claimwriter.proofs.WrittenLaws.{section-length, holds-section}
 use Rattle.claimwriter.proofs.CountsLaws.{count-stands}
 use Rattle.claimwriter.proofs.AlikeLaws.{section-whole, section-alike, Follows, groups_checked, groups-alike, follows-groups}
+use Rattle.std.specs.Prelude.{Ok, Err}
 
 --------------------------------------------------------------------------------
 -- The claims
@@ -99,7 +96,7 @@ module _ (stored : Bool) (day : ℕ) (s t : List ℕ) where
 
       laid : ℕ → ℕ → Reading
       laid p q =
-          Accepted
+          Ok
           (record {
             week = true;
             day = day;
@@ -115,8 +112,8 @@ module _ (stored : Bool) (day : ℕ) (s t : List ℕ) where
           (x : Checked) →
           after_claims new t cards shops 2 shop_at' (section_of x rows (b + 2) claim_width)
           ≡ widened_by (after_claims old s cards shops card_at shop_at (section_of x rows (a + 2) claim_width))
-      told (Fault why) = refl
-      told Fine =
+      told (Err why) = refl
+      told (Ok _) =
           elim (dec_lt (a + 2 + claim_width * rows) (length s)) [
             | yes more ↦
                 let there : b + 2 + claim_width * rows < length t = omega (arith, left-alike s a t b follows, follows) in
@@ -141,8 +138,8 @@ module _ (stored : Bool) (day : ℕ) (s t : List ℕ) where
           (x : Checked) → groups_checked old s a ≡ x →
           after_shops first_terms new t cards 2 (section_of x shops (b + 2) 16)
           ≡ widened_by (after_shops first_terms old s cards card_at (section_of x shops (a + 2) 4))
-      told (Fault why) e = refl
-      told Fine e =
+      told (Err why) e = refl
+      told (Ok _) e =
           after-claims cards shops card_at (a + 2) (b + 2) (a + 2 + 4 * shops) (b + 2 + 16 * shops)
           (follows-groups stored day (λ r. r) s a t b follows e) (omega arith) (omega arith)
 
@@ -160,8 +157,8 @@ module _ (stored : Bool) (day : ℕ) (s t : List ℕ) where
       told :
           (x : Checked) → groups_checked old s 0 ≡ x →
           after_cards first_terms new t (section_of x cards 2 16) ≡ widened_by (after_cards first_terms old s (section_of x cards 2 4))
-      told (Fault why) e = refl
-      told Fine e =
+      told (Err why) e = refl
+      told (Ok _) e =
           after-shops cards 2 (2 + 4 * cards) (2 + 16 * cards)
           (follows-groups stored day (widen_section (λ r. r)) s 0 t 0 follows e) refl
 
@@ -175,15 +172,15 @@ widened-reading f s old =
 -- the number that is told is the same
 pub widened-refused :
     (f : Form) (s : List ℕ) (why : Refusal) → f.week ≡ false →
-    (reading f s ≡ Refused why) ↔ (reading (week_form f) (widened s) ≡ Refused why)
+    (reading f s ≡ Err why) ↔ (reading (week_form f) (widened s) ≡ Err why)
 widened-refused f s why old = (λ e. told ∙ ap widened_by e, λ e. back (reading f s) (sym told ∙ e))
   where
     told : reading (week_form f) (widened s) ≡ widened_by (reading f s)
     told = widened-reading f s old
 
-    back : (x : Reading) → widened_by x ≡ Refused why → x ≡ Refused why
-    back (Accepted l) e = not-both (widened_by (Accepted l)) _ why refl e
-    back (Refused v) e = e
+    back : (x : Reading) → widened_by x ≡ Err why → x ≡ Err why
+    back (Ok l) e = not-both (widened_by (Ok l)) _ why refl e
+    back (Err v) e = e
 
 --------------------------------------------------------------------------------
 -- The widening of an accepted file is its week file
@@ -206,7 +203,7 @@ module _ (s : List ℕ) (bytes : (i : ℕ) → get_or s i 0 < 256) where
       kind zero h = same-cell s (claim_width * c + 4 + 0) (claim_width * c + 4) (omega arith)
       kind (suc j) h = absurd (omega arith)
 
-module _ (f : Form) (s : List ℕ) (l : Layout) (old : f.week ≡ false) (is : reading f s ≡ Accepted l) where
+module _ (f : Form) (s : List ℕ) (l : Layout) (old : f.week ≡ false) (is : reading f s ≡ Ok l) where
   sound : Sound s l
   sound = accepted-sound f s l is
 

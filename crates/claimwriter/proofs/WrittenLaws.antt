@@ -20,7 +20,7 @@ use lib.ListN.{length, get_or, take, drop, length-append, length-drop}
 use Rattle.theory.specs.Bounds.{max_groups, max_rows}
 use Rattle.claimfile.specs.File.{stored_week, days, columns, column_of, group_width, claim_width}
 use Rattle.claimfile.specs.File.{first_terms, word, limit_at, record_at, group_at, claim_at}
-use Rattle.reader.specs.Reading.{none_above, group_fault, claim_fault}
+use Rattle.reader.specs.Reading.{read_section, none_above, group_fault, claim_fault, Checked}
 use Rattle.reader.specs.Reading.{section_by, section_at, claims_at, reading}
 use Rattle.claimfile.specs.Day.{start_of, group_of, on_day, claims, claim_of}
 use Rattle.claimfile.specs.Sound.{SmallerOrTop, Sound}
@@ -30,10 +30,6 @@ use Rattle.claimwriter.specs.Put.{Holds, count_place, row_count_place, group_pla
 use Rattle.claimfile.specs.declared.Form.{Form}
 use Rattle.reader.specs.declared.Refusal.{Refusal}
 use Rattle.reader.specs.declared.Refusal.TheVariants.{GroupCount, ClaimCount}
-use Rattle.reader.specs.declared.Checked.{Checked}
-use Rattle.reader.specs.declared.Checked.TheVariants.{Fine}
-use Rattle.reader.specs.declared.Section.TheVariants.{Read}
-use Rattle.reader.specs.declared.Reading.TheVariants.{Accepted}
 use Rattle.claimfile.specs.declared.Layout.{Layout}
 use Rattle.claimfile.specs.declared.Group.{Group}
 use Rattle.claimfile.specs.declared.Claim.{Claim}
@@ -45,6 +41,7 @@ use Rattle.claimwriter.proofs.PutLaws.{same-cell, holds-self, holds-take, holds-
 use Rattle.claimwriter.proofs.PutLaws.{holds-first, holds-second, holds-append}
 use Rattle.claimwriter.proofs.PutLaws.{records-length, holds-record, holds-records, records-same, group-length, group-same}
 use Rattle.claimwriter.proofs.PutLaws.{Bytes, bytes-append, bytes_word, bytes-records}
+use Rattle.std.specs.Prelude.{Ok}
 
 --------------------------------------------------------------------------------
 -- Numbers and records that are read
@@ -122,8 +119,8 @@ section-bytes n f l h = bytes-append (bytes_of n) (records n f) (bytes_word n l)
 -- a section with a small count and records without a fault
 pub section-passes :
     (s : List ℕ) (at most : ℕ) (over : Refusal) (width : ℕ) (checked : Checked) (n start next : ℕ) → at + 2 ≤ length s →
-    word s at ≡ n → n ≤ most → checked ≡ Fine → start ≡ at + 2 → next ≡ start + width * n →
-    section_by s at most over width checked ≡ Read n start next
+    word s at ≡ n → n ≤ most → checked ≡ Ok tt → start ≡ at + 2 → next ≡ start + width * n →
+    section_by s at most over width checked ≡ Ok (read_section n start next)
 section-passes s at most over width checked n start next whole count small fine e after =
     section-fits s at most over width checked (count_fits s at most over whole (omega arith))
     ∙ rw (fine, count, after, e)
@@ -134,7 +131,7 @@ pub group-passes :
     (f.stored ≡ false → word s (record_at f.week start own) < own →
     none_above s (record_at f.week start own) (record_at f.week start (word s (record_at f.week start own))) (columns f.week)
     ≡ true) →
-    group_fault f s start own ≡ Fine
+    group_fault f s start own ≡ Ok tt
 group-passes f s start own parent limits =
     elim (dec_lt (word s (record_at f.week start own)) own) [
       | yes small ↦
@@ -309,7 +306,7 @@ module _ (d : Contents) where
       abbrev f : Form
       f = record { week = true; stored = stored; day = day }
 
-      group-fits : (side g : ℕ) → g < records_on d side → group_fault f s (start_of l side) g ≡ Fine
+      group-fits : (side g : ℕ) → g < records_on d side → group_fault f s (start_of l side) g ≡ Ok tt
       group-fits side g h =
           group-passes f s (start_of l side) g (subst (SmallerOrTop g) (sym up) (ranged.parents side g h))
           (λ new small.
@@ -328,7 +325,7 @@ module _ (d : Contents) where
 
       groups-read :
           (side next : ℕ) → next ≡ start_of l side + group_width true * records_on d side →
-          section_at f s (count_place l side) ≡ Read (records_on d side) (start_of l side) next
+          section_at f s (count_place l side) ≡ Ok (read_section (records_on d side) (start_of l side) next)
       unfolding section_at
       groups-read side next after =
           let count = word_back s (count_place l side) (records_on d side) (written_count side) in
@@ -339,7 +336,7 @@ module _ (d : Contents) where
           (λ g h. omega (arith, within side)) (group-fits side) (records_on d side) 0 (omega arith)))
           (start-behind side) after
 
-    rows-read : claims_at first_terms s (row_count_place l) d.cards d.shops ≡ Read d.rows l.row_at (length_of d)
+    rows-read : claims_at first_terms s (row_count_place l) d.cards d.shops ≡ Ok (read_section d.rows l.row_at (length_of d))
     unfolding claims_at
     rows-read =
         let count = word_back s (row_count_place l) d.rows written-row-count in
@@ -358,7 +355,7 @@ module _ (d : Contents) where
     -- as a stored file, or as a new one where the contents are proper
     pub written-accepted :
         (stored : Bool) (day : ℕ) → (stored ≡ false → Proper d) →
-        reading (record { week = true; stored = stored; day = day }) (file_bytes d) ≡ Accepted (on_day (layout_of d) day)
+        reading (record { week = true; stored = stored; day = day }) (file_bytes d) ≡ Ok (on_day (layout_of d) day)
     written-accepted stored day judged =
         accepted first_terms (record { week = true; stored = stored; day = day }) s d.cards 2 (count_place l 1)
         (groups-read stored day judged 0 (count_place l 1) (omega arith)) d.shops (start_of l 1) (row_count_place l)

@@ -5,13 +5,12 @@
 --   as_week s l             the file in the week layout
 --   week_layout l           how it is laid out there
 --   week_by s x             the file in the week layout, of a file s with the reading x; no bytes where it is refused
-use Rattle.std.specs.Prelude.{true, List, [], ℕ}
+use Rattle.std.specs.Prelude.{true, List, [], ℕ, Ok, Err}
 use Rattle.claimfile.specs.declared.Form.{Form}
 use Rattle.claimfile.specs.declared.Layout.{Layout}
-use Rattle.reader.specs.declared.Reading.{Reading}
-use Rattle.reader.specs.declared.Reading.TheVariants.{Accepted, Refused}
 use Rattle.claimfile.specs.Day.{group_of, claim_of, on_day}
 use Rattle.claimwriter.specs.Written.{week_group, Contents, file_bytes, layout_for}
+use Rattle.reader.specs.Reading.{Reading}
 
 abbrev pub week_form : Form → Form
 week_form f = record { week = true; stored = f.stored; day = f.day }
@@ -32,5 +31,5 @@ abbrev pub week_layout : Layout → Layout
 week_layout l = on_day (layout_for l.cards l.shops l.rows) l.day
 
 abbrev pub week_by : List ℕ → Reading → List ℕ
-week_by s (Accepted l) = as_week s l
-week_by s (Refused why) = []
+week_by s (Ok l) = as_week s l
+week_by s (Err why) = []

@@ -8,13 +8,12 @@
 --   widen_section next s    a count, so many records widened, then `next` of what follows; what is no whole count is copied
 --   widened s              both group sections widened, and the rest copied
 --   widened_by x            the reading x of a file, as that of its widening: with the week file's layout, or the same refusal
-use Rattle.std.specs.Prelude.{List, ◌++◌, ℕ, zero, suc, false, length, drop, ltb}
+use Rattle.std.specs.Prelude.{List, ◌++◌, ℕ, zero, suc, false, length, drop, ltb, Ok, Err}
 use Rattle.theory.specs.Sum.{pick}
-use Rattle.reader.specs.declared.Reading.{Reading}
-use Rattle.reader.specs.declared.Reading.TheVariants.{Accepted, Refused}
 use Rattle.claimfile.specs.File.{group_width, word, limit_at}
 use Rattle.claimwriter.specs.Written.{WeekGroup, week_group, bytes_of, group_bytes}
 use Rattle.claimwriter.specs.Week.{week_layout}
+use Rattle.reader.specs.Reading.{Reading}
 
 abbrev pub seven_days : ℕ → ℕ → WeekGroup
 seven_days parent limit = week_group parent (λ k. limit)
@@ -36,5 +35,5 @@ unfoldable pub widened : List ℕ → List ℕ
 widened s = widen_section (widen_section (λ r. r)) s
 
 abbrev pub widened_by : Reading → Reading
-widened_by (Accepted l) = Accepted (week_layout l)
-widened_by (Refused why) = Refused why
+widened_by (Ok l) = Ok (week_layout l)
+widened_by (Err why) = Err why

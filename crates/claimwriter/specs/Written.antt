@@ -22,15 +22,14 @@
 --   SameContents d e       the same counts, and the same record of each group and of each claim
 -- "Three sections in fixed order, each after its count. Every count and field is unsigned and 16 bits wide, low byte first, except
 -- the kind, which is one byte."
-use Rattle.std.specs.Prelude.{ℕ, zero, suc, ◌+◌, ◌*◌, ◌/◌, ◌%◌, ◌<◌, ◌≤◌, true, ◌≡◌, List, [], ◌∷◌, ◌++◌}
+use Rattle.std.specs.Prelude.{ℕ, zero, suc, ◌+◌, ◌*◌, ◌/◌, ◌%◌, ◌<◌, ◌≤◌, true, ◌≡◌, List, [], ◌∷◌, ◌++◌, Ok, Err}
 use Rattle.theory.specs.Bounds.{max_groups, max_rows, max_limit}
 use Rattle.claimfile.specs.declared.Layout.{Layout}
 use Rattle.claimfile.specs.declared.Group.{Group}
 use Rattle.claimfile.specs.declared.Claim.{Claim}
 use Rattle.claimfile.specs.File.{days, group_width, claim_width}
 use Rattle.claimfile.specs.Sound.{SmallerOrTop}
-use Rattle.reader.specs.declared.Reading.{Reading}
-use Rattle.reader.specs.declared.Reading.TheVariants.{Accepted, Refused}
+use Rattle.reader.specs.Reading.{Reading}
 
 pub record WeekGroup : Type 0 where
   pub parent : ℕ
@@ -90,8 +89,8 @@ layout_for cards shops rows = record {
 }
 
 abbrev pub layout_in : Reading → Layout
-layout_in (Accepted l) = l
-layout_in (Refused why) = layout_for 0 0 0
+layout_in (Ok l) = l
+layout_in (Err why) = layout_for 0 0 0
 
 abbrev pub length_for : ℕ → ℕ → ℕ → ℕ
 length_for cards shops rows = 6 + group_width true * (cards + shops) + claim_width * rows

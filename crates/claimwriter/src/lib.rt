@@ -4,13 +4,12 @@
 // starts with the file (`written-cells`, proofs/WrittenLaws.antt). The counts of an accepted file give its layout back (`layout_in`).
 #![tactic(auto)]
 
-ghost use Rattle.std.specs.Prelude.{◌≡◌, ◌+◌, ◌*◌, ◌<◌, ◌≤◌, ◌++◌, length};
+ghost use Rattle.std.specs.Prelude.{◌≡◌, ◌+◌, ◌*◌, ◌<◌, ◌≤◌, ◌++◌, length, Ok};
 ghost use Rattle.theory.specs.Bounds.{max_groups, max_rows};
 ghost use Rattle.theory.specs.Matroid.{row};
 ghost use Rattle.claimfile.specs.File.{days, new_week};
 ghost use Rattle.claimfile.specs.Day.{count_of, group_of, on_day};
 ghost use Rattle.reader.specs.Reading.{reading};
-ghost use Rattle.reader.specs.declared.Reading.TheVariants.{Accepted};
 ghost use Rattle.claimwriter.specs.Written.{week_group, bytes_of, records, group_bytes, claim_bytes, layout_for, layout_in, length_for};
 ghost use Rattle.claimwriter.specs.Put.{Put, group_place, claim_place, Laid, Room, CountsPut};
 
@@ -38,7 +37,7 @@ pub fn layout_for(cards: usize, shops: usize, rows: usize) -> Layout
 // The layout of a file that was read before and accepted, as a new one in the week layout for a day: by its three counts alone, no record
 // is judged again.
 pub fn layout_in(file: &[u8], day: usize) -> Layout
-    requires { reading (new_week day) file.now ≡ Accepted (layout_in (reading (new_week day) file.now)) }
+    requires { reading (new_week day) file.now ≡ Ok (layout_in (reading (new_week day) file.now)) }
     ensures { result ≡ layout_in (reading (new_week day) file.now) }
 {
     let cards = u16_at(file, 0);
@@ -91,21 +90,13 @@ pub fn put_counts(layout: Layout, out: &mut [u8])
     put_u16(layout.row_at - 2, layout.rows, out);
 }
 
-fn wide(x: u16) -> usize
-    ensures { (result ≡ x) × (result < 65536) }
-{
-    x as usize
-}
-
 // Puts the limits of a group, one behind the other.
 fn put_limits(at: usize, limits: &[u16; DAYS], out: &mut [u8])
     requires { (at + 2 * days ≤ length out.old) × (length limits.now ≡ days) }
     ensures { Put out.old out.new at (records days (λ k. bytes_of (row limits.now k))) }
 {
-    let mut k = 0;
-    while k < DAYS {
-        put_u16(at + 2 * k, wide(limits[k]), out);
-        k += 1;
+    for k in 0..DAYS {
+        put_u16(at + 2 * k, usize::from(limits[k]), out);
     }
 }
 

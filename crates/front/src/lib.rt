@@ -55,6 +55,7 @@ fn read_full<R: Read>(input: &mut R, buffer: &mut [u8]) -> usize
     ensures { result ≤ length buffer.new }
 {
     let mut done = 0;
+    // stays: the new form is no plainer: the loop goes on by as many bytes as a read gives, and `read_exact` does not say how many came.
     while done < buffer.len() {
         let n = input.read(&mut buffer[done..]).unwrap_or(0);
         if n == 0 {
@@ -65,32 +66,14 @@ fn read_full<R: Read>(input: &mut R, buffer: &mut [u8]) -> usize
     done
 }
 
-// Settles a file in the lent buffers and writes the text. A write that fails is not told: the program's exit status says nothing.
-fn show<P: Print>(
-    output: &P,
-    file: &[u8],
-    choice: &mut [u8],
-    sheet: &mut [u32],
-    scratch: &mut [u32],
-    text: &mut [u8],
-) {
-    let length = print_day(file, choice, sheet, scratch, text);
-    let _ = output.write_all(&text[..length]);
-}
-
+// Settles a file and writes the text. A write that fails is not told: the program's exit status says nothing.
 fn run<P: Print>(output: &P, file: &[u8]) {
     let mut choice = choice_buffer();
     let mut sheet = sheet_buffer();
     let mut scratch = scratch_buffer();
     let mut text = text_buffer();
-    show(
-        output,
-        file,
-        &mut choice,
-        &mut sheet,
-        &mut scratch,
-        &mut text,
-    );
+    let length = print_day(file, &mut choice, &mut sheet, &mut scratch, &mut text);
+    let _ = output.write_all(&text[..length]);
 }
 
 pub fn settle_stdin<R: Input + Print>(rt: &R) {

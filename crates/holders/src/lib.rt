@@ -7,7 +7,6 @@
 #![tactic(auto)]
 
 ghost use Rattle.std.specs.Prelude.{◌+◌, ◌<◌};
-ghost use Rattle.scratch.specs.Memory.{memory};
 ghost use Rattle.scratch.specs.Map.{Room};
 ghost use Rattle.solver.specs.Solve.{Tables};
 ghost use Rattle.solver.specs.Toll.{Running};
@@ -16,98 +15,63 @@ ghost use Rattle.holders.specs.Find.{Augmented, NamedNode, Named, SourceLabelled
 use entries::{pred, set_label};
 use labels::{FROM_SOURCE, TO_SINK, put_codes};
 use scratch::Shape;
+use scratch::cells::Width;
 use search::{relabel, search_back};
 use solver::start;
 use walks::turn_more;
 
 // Turns paths from the source to the sink until there is none. The nodes that are reached then have a pred.
-fn augment(
-    sh: Shape,
-    choice: &mut [u8],
-    wide: bool,
-    sheet: &[u32],
-    sheet64: &[u64],
-    scratch: &mut [u32],
-    scratch64: &mut [u64],
-)
-    requires { Running sh choice.old (memory wide sheet.now sheet64.now) (memory wide scratch.old scratch64.old) }
-    ensures { let sheet₀ = memory wide sheet.now sheet64.now in
-        let scratch₀ = memory wide scratch.old scratch64.old in
-        let scratch' = memory wide scratch.new scratch64.new in
-        Augmented sh choice.old sheet₀ scratch₀ choice.new scratch' }
+fn augment<W: Width>(sh: Shape, choice: &mut [u8], sheet: &[W], scratch: &mut [W])
+    requires { Running sh choice.old (W.memory sheet.now) (W.memory scratch.old) }
+    ensures { Augmented sh choice.old (W.memory sheet.now) (W.memory scratch.old) choice.new (W.memory scratch.new) }
 {
     let mut more = true;
     while more {
-        more = turn_more(sh, choice, wide, sheet, sheet64, scratch, scratch64);
+        more = turn_more(sh, choice, sheet, scratch);
     }
 }
 
 // Node v gets the label of those that are reached from the source, where it is one of them.
-fn label_reached(sh: Shape, v: usize, wide: bool, scratch: &mut [u32], scratch64: &mut [u64])
-    requires room { Room sh (memory wide scratch.old scratch64.old) }
+fn label_reached<W: Width>(sh: Shape, v: usize, scratch: &mut [W])
+    requires room { Room sh (W.memory scratch.old) }
     requires v_bound { v < sh.groups + 2 }
-    ensures { let scratch₀ = memory wide scratch.old scratch64.old in
-        let scratch' = memory wide scratch.new scratch64.new in
-        NamedNode sh scratch₀ scratch' v }
+    ensures { NamedNode sh (W.memory scratch.old) (W.memory scratch.new) v }
 {
-    if pred(sh, v, wide, scratch, scratch64) > 0 {
-        set_label(sh, v, FROM_SOURCE, wide, scratch, scratch64);
+    if pred(sh, v, scratch) > 0 {
+        set_label(sh, v, FROM_SOURCE, scratch);
     }
 }
 
 // The nodes that are reached from the source get their label.
-fn label_source(sh: Shape, wide: bool, scratch: &mut [u32], scratch64: &mut [u64])
-    requires { Room sh (memory wide scratch.old scratch64.old) }
-    ensures { let scratch₀ = memory wide scratch.old scratch64.old in
-        let scratch' = memory wide scratch.new scratch64.new in
-        Named sh scratch₀ scratch' (sh.groups + 2) }
+fn label_source<W: Width>(sh: Shape, scratch: &mut [W])
+    requires { Room sh (W.memory scratch.old) }
+    ensures { Named sh (W.memory scratch.old) (W.memory scratch.new) (sh.groups + 2) }
 {
     let g = sh.groups;
     for v in 0..g + 2 {
-        label_reached(sh, v, wide, scratch, scratch64);
+        label_reached(sh, v, scratch);
     }
 }
 
 // The nodes that reach the sink get their label. The source is no fresh node, so the search goes on to its end.
-fn label_sink(
-    sh: Shape,
-    choice: &[u8],
-    wide: bool,
-    sheet: &[u32],
-    sheet64: &[u64],
-    scratch: &mut [u32],
-    scratch64: &mut [u64],
-)
-    requires { SourceLabelled sh choice.now (memory wide sheet.now sheet64.now) (memory wide scratch.old scratch64.old) }
-    ensures { let sheet₀ = memory wide sheet.now sheet64.now in
-        let scratch₀ = memory wide scratch.old scratch64.old in
-        let scratch' = memory wide scratch.new scratch64.new in
-        BothLabelled sh choice.now sheet₀ scratch₀ scratch' }
+fn label_sink<W: Width>(sh: Shape, choice: &[u8], sheet: &[W], scratch: &mut [W])
+    requires { SourceLabelled sh choice.now (W.memory sheet.now) (W.memory scratch.old) }
+    ensures { BothLabelled sh choice.now (W.memory sheet.now) (W.memory scratch.old) (W.memory scratch.new) }
 {
     let source = sh.groups;
     let sink = source + 1;
-    let n = search_back(
-        sh, sink, source, choice, wide, sheet, sheet64, scratch, scratch64,
-    );
-    relabel(sh, n, TO_SINK, wide, scratch, scratch64);
+    let n = search_back(sh, sink, source, choice, sheet, scratch);
+    relabel(sh, n, TO_SINK, scratch);
 }
 
 // Leaves the codes of the rows in the lent bytes.
-pub fn find_codes(
-    sh: Shape,
-    codes: &mut [u8],
-    wide: bool,
-    sheet: &mut [u32],
-    sheet64: &mut [u64],
-    scratch: &mut [u32],
-    scratch64: &mut [u64],
-)
-    requires { Tables sh codes.old (memory wide sheet.old sheet64.old) (memory wide scratch.old scratch64.old) }
-    ensures { Found sh (memory wide scratch.old scratch64.old) codes.old codes.new }
+pub fn find_codes<W: Width>(sh: Shape, codes: &mut [u8], sheet: &mut [W], scratch: &mut [W])
+    requires { Tables sh codes.old (W.memory sheet.old) (W.memory scratch.old) }
+    ensures { Found sh (W.memory scratch.old) codes.old codes.new }
 {
-    start(sh, codes, wide, sheet, sheet64, scratch, scratch64);
-    augment(sh, codes, wide, sheet, sheet64, scratch, scratch64);
-    label_source(sh, wide, scratch, scratch64);
-    label_sink(sh, codes, wide, sheet, sheet64, scratch, scratch64);
-    put_codes(sh, codes, wide, scratch, scratch64);
+    start(sh, codes, sheet, scratch);
+    augment(sh, codes, sheet, scratch);
+    label_source(sh, scratch);
+    label_sink(sh, codes, sheet, scratch);
+    put_codes(sh, codes, scratch);
 }

@@ -1,23 +1,24 @@
 -- Laws of what a row means.
 --   square-most cube-most        what N + 1 to the powers 2 and 3 are at most, with at most 512 rows
---   power-none power-one power-two power-three    the weight of a kind
---   hung-ordinary hung-earned    where a claim hangs on the card side
+--   power-most                   a weight is at most that of kind 3 among the most rows
+--   power-one power-three        the weight of a kind
+--   hung-ordinary                where an ordinary claim hangs on the card side
 --   card-hung shop-hung          where a row hangs, by its claim
 --   weighed                      the weight of a row among so many, by its claim
 use mathlib.Core.Path.{◌≡◌, sym, ap, ◌∙◌}
-use mathlib.Core.Logic.{◌≢◌}
 use mathlib.Core.List.{List}
 use Prim.Native.Nat.{ℕ, ◌+◌, ◌*◌, ◌^◌, ◌≤◌, ◌<◌}
 use native.Mathlib.Omega.{arith}
-use native.Mathlib.Nat.{zero-add, one-mul, mul-le-mul, pow-zero, pow-suc}
+use native.Mathlib.Nat.{zero-add, one-mul, mul-le-mul, pow-zero, pow-suc, pow-le-pow_left, pow-le-pow_right}
 use lib.Dec.{eqb}
 use Rattle.theory.specs.Sum.{pick}
 use Rattle.theory.specs.Priority as priority
 use Rattle.claimfile.specs.declared.Layout.{Layout}
-use Rattle.claimfile.specs.declared.Group.{Group}
 use Rattle.claimfile.specs.declared.Claim.{Claim}
 use Rattle.claimfile.specs.Day as day
-use Rattle.claimfile.proofs.DayLaws.{parent-on, card-ordinary, card-earned, card-node, shop-node}
+use Rattle.claimfile.proofs.DayLaws.{parent-on, card-ordinary, card-node, shop-node}
+use Rattle.theory.specs.Bounds.{max_rows}
+use Rattle.claimfile.specs.File.{second_terms}
 use Rattle.instance.specs.Meaning.{heaviest}
 
 -- the weight of a kind, with at most 512 rows
@@ -28,30 +29,25 @@ module _ (b : ℕ) (few : b ≤ 513) where
   pub cube-most : b * b * b ≤ heaviest
   cube-most = omega (arith, mul-le-mul {n₁ = b * b} {m₁ = b} {n₂ = 263169} {m₂ = 513} square-most few)
 
-module _ (b kind : ℕ) where
-  pub power-none : kind ≡ 0 → 1 ≡ b ^ kind
-  power-none e = rw (e, pow-zero)
+pub power-most : (rows kind : ℕ) → rows ≤ max_rows → kind < second_terms → (rows + 1) ^ kind ≤ heaviest
+power-most rows kind few small =
+    omega (
+      arith,
+      pow-le-pow_left {n = rows + 1} {m = 513} (omega arith) kind,
+      pow-le-pow_right {n = 513} (omega arith) {i = kind} {j = 3} (omega arith),
+    )
 
+module _ (b kind : ℕ) where
   pub power-one : kind ≡ 1 → b ≡ b ^ kind
   power-one e = rw (e, pow-suc, pow-zero, one-mul)
-
-  pub power-two : kind ≡ 2 → b * b ≡ b ^ kind
-  power-two e = rw (e, pow-suc, pow-suc, pow-zero, one-mul)
 
   pub power-three : kind ≡ 3 → b * b * b ≡ b ^ kind
   power-three e = rw (e, pow-suc, pow-suc, pow-suc, pow-zero, one-mul)
 
--- where a claim hangs on the card side, by its kind and by the record of the group that it names
+-- where an ordinary claim hangs on the card side
 module _ (s : List ℕ) (l : Layout) (root : ℕ) (claim : Claim) where
   pub hung-ordinary : claim.kind ≡ 0 → claim.card ≡ day.card_under s l root claim
   hung-ordinary e = sym (card-ordinary (λ g. day.above g (day.group_of s l 0 g).parent 0 root) claim e)
-
-  pub hung-earned :
-      claim.kind ≢ 0 → (group : Group) → group ≡ day.group_of s l 0 claim.card →
-      day.above claim.card group.parent 0 root ≡ day.card_under s l root claim
-  hung-earned n group is =
-      ap (λ (x : Group). day.above claim.card x.parent 0 root) is
-      ∙ sym (card-earned (λ g. day.above g (day.group_of s l 0 g).parent 0 root) claim n)
 
 module _ (s : List ℕ) (l : Layout) (c : ℕ) (claim : Claim) (is : claim ≡ day.claim_of s l c) where
   pub card-hung : claim.card < l.cards → day.card_under s l (day.groups_of l) claim ≡ day.card_node s l c

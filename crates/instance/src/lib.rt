@@ -53,10 +53,7 @@ pub fn node_at(file: &[u8], layout: Layout, v: usize) -> Group
 pub fn lesser(written: usize, most: usize) -> usize
     ensures { result ≡ min written most }
 {
-    if most < written {
-        return most;
-    }
-    written
+    written.min(most)
 }
 
 // Where a claim hangs on the card side, with `root` over its tops: at the group that it names, or, where it is earned, above that group.
@@ -85,22 +82,5 @@ pub fn power(rows: usize, kind: u8) -> usize
     requires { (rows ≤ max_rows) × (kind < second_terms) }
     ensures { (result ≡ (rows + 1) ^ kind) × (result ≤ heaviest) }
 {
-    let base = rows + 1;
-    if kind == 0 {
-        return 1;
-    }
-    if kind == 1 {
-        return base;
-    }
-    if kind == 2 {
-        return base * base;
-    }
-    base * base * base
-}
-
-// A number of 16 bits, from a table.
-pub fn wide(x: u16) -> usize
-    ensures { (result ≡ x) × (result < 65536) }
-{
-    x as usize
+    (rows + 1).pow(u32::from(kind))
 }

@@ -21,12 +21,9 @@ use Rattle.claimfile.specs.declared.Layout.{Layout}
 use Rattle.claimfile.specs.File.{days, new_week, stored_week}
 use Rattle.claimfile.specs.Day.{network_of, instance_of}
 use Rattle.reader.specs.declared.Refusal.{Refusal}
-use Rattle.reader.specs.declared.Reading.TheVariants.{Accepted}
 use Rattle.reader.specs.Reading.{reading}
 use Rattle.reader.proofs.AcceptedLaws.{one-layout}
 use Rattle.refusal.specs.declared.Reason.{Reason}
-use Rattle.closing.specs.declared.Settled.{Settled}
-use Rattle.closing.specs.declared.Settled.TheVariants as settled_is
 use Rattle.closing.specs.declared.Totals.{Totals}
 use Rattle.closing.specs.Settle.{Enough, Closes, best_row}
 use Rattle.closing.specs.Settle as settle
@@ -34,42 +31,41 @@ use Rattle.closing.proofs.Demand as demand
 use Rattle.counters.specs.Joined.{joined}
 use Rattle.counters.proofs.PartLaws.{part_end}
 use Rattle.members.specs.declared.Sizes.{Sizes}
-use Rattle.members.specs.declared.Judged.{Judged}
-use Rattle.members.specs.declared.Judged.TheVariants as judged-is
 use Rattle.members.specs.Members.{member_of, layouts_of, judged}
 use Rattle.members.proofs.FoundLaws.{ready-found}
 use Rattle.joinfile.specs.Files.{DaysAgree}
 use Rattle.joinfile.proofs.FileLaws.{joined-accepted}
 use Rattle.joinfile.proofs.DayLaws.{joined_same, alone-in-file}
 use Rattle.jointables.specs.Filled.{days_of}
-use Rattle.joined.specs.declared.Joint.{Joint}
-use Rattle.joined.specs.declared.Joint.TheVariants.{Closed, Member, Refused}
 use Rattle.joined.specs.Call.{together, layout_for, joint_of, joined_numbers, told_for, JoinsAs}
 use Rattle.joined.specs.Close.{all_rows}
+use Rattle.members.specs.declared.Fault.TheVariants.{Member, Whole}
+use Rattle.std.specs.Prelude.{Ok, Err, Result}
+use Rattle.members.specs.declared.Fault.{Fault}
 
 -- the cases of an answer exclude each other
-member-closes : {A : Type 0} (x : Joint) (k : ℕ) (why : Refusal) (a : Totals) → x ≡ Member k why → x ≡ Closed a → A
+member-closes : {A : Type 0} (x : Result Totals Fault) (k : ℕ) (why : Refusal) (a : Totals) → x ≡ Err (Member k why) → x ≡ Ok a → A
 member-closes x k why a p q =
     let e : ◌≡◌ {A = ℕ} 0 1 = cc in
     absurd (omega arith)
 
-refused-closes : {A : Type 0} (x : Joint) (why : Reason) (a : Totals) → x ≡ Refused why → x ≡ Closed a → A
+refused-closes : {A : Type 0} (x : Result Totals Fault) (why : Reason) (a : Totals) → x ≡ Err (Whole why) → x ≡ Ok a → A
 refused-closes x why a p q =
     let e : ◌≡◌ {A = ℕ} 0 1 = cc in
     absurd (omega arith)
 
-same-totals : (x : Joint) (a c : Totals) → x ≡ Closed a → x ≡ Closed c → a ≡ c
+same-totals : (x : Result Totals Fault) (a c : Totals) → x ≡ Ok a → x ≡ Ok c → a ≡ c
 same-totals x a c p q = cc
 
 -- only settling closes
-closed_is : (a : Totals) (q : Settled) → Closed a ≡ joint_of q → q ≡ settled_is.Closed a
-closed_is a (settled_is.Closed c) e = ap settled_is.Closed (sym (same-totals (Closed a) a c refl e))
-closed_is a (settled_is.Refused why) e = refused-closes (Closed a) why a e refl
+closed_is : (a : Totals) (q : Result Totals Reason) → Ok a ≡ joint_of q → q ≡ Ok a
+closed_is a (Ok c) e = ap Ok (sym (same-totals (Ok a) a c refl e))
+closed_is a (Err why) e = refused-closes (Ok a) why a e refl
 
 module _ (day : ℕ) (b ls : List ℕ) (oven : ℕ) (bytes : (i : ℕ) → get_or b i 0 < 256) (small : oven < 65536) where
   pub joined-day :
-      (z : Sizes) → judged day b ls ≡ judged-is.Ready z →
-      (reading (stored_week day) (together day b ls oven) ≡ Accepted (layout_for day b ls oven))
+      (z : Sizes) → judged day b ls ≡ Ok z →
+      (reading (stored_week day) (together day b ls oven) ≡ Ok (layout_for day b ls oven))
       × (day < days →
       DaysAgree (instance_of (together day b ls oven) (layout_for day b ls oven)) (joined (length ls) (days_of day b ls) oven))
   joined-day z ready =
@@ -78,22 +74,22 @@ module _ (day : ℕ) (b ls : List ℕ) (oven : ℕ) (bytes : (i : ℕ) → get_o
         λ week. joined_same (length ls) (member_of b ls) (layouts_of day b ls) oven day all small week,
       )
 
-  module _ (ch sheet t ch' sheet' t' : List ℕ) (r : Joint) (J : JoinsAs day b ls oven ch sheet t ch' sheet' t' r) where
+  module _ (ch sheet t ch' sheet' t' : List ℕ) (r : Result Totals Fault) (J : JoinsAs day b ls oven ch sheet t ch' sheet' t' r) where
     pub number-told : joined_numbers r ≡ told_for day (judged day b ls) (together day b ls oven) ch sheet t
     number-told = J.told
 
-    module _ (a : Totals) (is : r ≡ Closed a) where
+    module _ (a : Totals) (is : r ≡ Ok a) where
       pub record ClosedFiles : Type 0 where
         pub sizes : Sizes
-        pub ready : judged day b ls ≡ judged-is.Ready sizes
+        pub ready : judged day b ls ≡ Ok sizes
         pub known : day < days
         pub enough : Enough (network_of (together day b ls oven) (layout_for day b ls oven)) ch sheet t
         pub closes : Closes (instance_of (together day b ls oven) (layout_for day b ls oven)) ch sheet t ch' sheet' t' a
 
-      by : (x : Judged) → judged day b ls ≡ x → ClosedFiles
-      by (judged-is.Member k why) e = member-closes r k why a (J.member k why e).0 is
-      by (judged-is.Refused why) e = refused-closes r why a (J.refused why e).0 is
-      by (judged-is.Ready z) e =
+      by : (x : Result Sizes Fault) → judged day b ls ≡ x → ClosedFiles
+      by (Err (Member k why)) e = member-closes r k why a (J.member k why e).0 is
+      by (Err (Whole why)) e = refused-closes r why a (J.refused why e).0 is
+      by (Ok z) e =
           let s = J.settled z e in
           let closed =
           demand.closed_on (instance_of (together day b ls oven) (layout_for day b ls oven)) day ch sheet t ch' sheet' t' s.0 a
@@ -121,8 +117,8 @@ module _ (day : ℕ) (b ls : List ℕ) (oven : ℕ) (bytes : (i : ℕ) → get_o
             ∙ alone-in-file (length ls) (member_of b ls) (layouts_of day b ls) oven day found.read.all small f.known k file wide c h
 
         pub alone-settled :
-            (ch₁ sheet₁ t₁ ch₂ sheet₂ t₂ : List ℕ) (q : Settled) (c : Totals) →
-            settle.Settles (new_week day) own ch₁ sheet₁ t₁ ch₂ sheet₂ t₂ q → q ≡ settled_is.Closed c →
+            (ch₁ sheet₁ t₁ ch₂ sheet₂ t₂ : List ℕ) (q : Result Totals Reason) (c : Totals) →
+            settle.Settles (new_week day) own ch₁ sheet₁ t₁ ch₂ sheet₂ t₂ q → q ≡ Ok c →
             Agree layout.rows (λ i. row ch' (first + i)) (row ch₂)
         alone-settled ch₁ sheet₁ t₁ ch₂ sheet₂ t₂ q c S e i h =
             let f = closed-joined in

@@ -6,7 +6,7 @@
 --   JoinCounts ..          what counting asks: the files are read, and the choice has 0s and 1s for their rows
 --   TallyOf ..             what it answers
 --   MemberCount, CountedMember     the same for one file, from the tally's row on
-use Rattle.std.specs.Prelude.{◌≡◌, List, ℕ, ◌+◌, ◌≤◌, ◌<◌, length}
+use Rattle.std.specs.Prelude.{◌≡◌, List, ℕ, ◌+◌, ◌≤◌, ◌<◌, length, Ok}
 use Rattle.theory.specs.Bounds.{max_rows}
 use Rattle.theory.specs.Sum.{sum}
 use Rattle.theory.specs.Incidence.{Selection, size}
@@ -15,7 +15,6 @@ use Rattle.theory.specs.Priority.{kept}
 use Rattle.claimfile.specs.declared.Layout.{Layout}
 use Rattle.claimfile.specs.File.{first_terms, days, new_week}
 use Rattle.claimfile.specs.Day.{kind_of}
-use Rattle.reader.specs.declared.Reading.TheVariants.{Accepted}
 use Rattle.reader.specs.Reading.{reading}
 use Rattle.closing.specs.Close.{Lent}
 use Rattle.counters.specs.Joined.{joined}
@@ -61,7 +60,7 @@ pub record TallyOf (day : ℕ) (b ls ch : List ℕ) (z : Tally) : Type 0 where
   pub counts : Tallied (kinds_of day b ls) ch z
 
 pub record MemberCount (day : ℕ) (s : List ℕ) (z : Tally) (ch : List ℕ) : Type 0 where
-  pub accepted : reading (new_week day) s ≡ Accepted (layout_at day s)
+  pub accepted : reading (new_week day) s ≡ Ok (layout_at day s)
   pub long : z.row + (layout_at day s).rows ≤ length ch
   pub bits : (i : ℕ) → i < (layout_at day s).rows → row ch (z.row + i) ≤ 1
   pub within : z.row ≤ max_rows

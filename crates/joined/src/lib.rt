@@ -10,29 +10,18 @@ ghost use Rattle.claimfile.specs.Day.{instance_of};
 ghost use Rattle.closing.specs.Settle.{SettlesOn};
 ghost use Rattle.closing.specs.Close.{Settlement, ClosedBy};
 ghost use Rattle.members.specs.Members.{ovened};
-ghost use Rattle.joined.specs.Call.{together, joint_of, JoinsAs};
+ghost use Rattle.joined.specs.Call.{together, JoinsAs};
 ghost use Rattle.joined.specs.Close.{Joins, JoinLent, JoinCounts, TallyOf, MemberCount, CountedMember};
 
 use claimfile::{DAYS, Layout, on_day};
 use claimwriter::{layout_for, layout_in};
-use closing::{Settled, Totals, marks_of, scratch_of, solve_on};
-use instance::wide;
+use closing::{Totals, marks_of, scratch_of, solve_on};
 use jointables::write_joined;
-use members::{Judged, Sizes, judge_files, length_at};
-use reader::Refusal;
+use members::{Fault, Sizes, judge_files, length_at};
 use refusal::Reason;
-use scratch::clear::clear;
+use scratch::cells::Width;
 use selection::{ORDINARY, count_rows};
 use tables::write::shape_of;
-
-// What settling counters together answers: what the joined day comes to; or the lowest file at fault, with the reader's own refusal; or why
-// the call is turned away.
-#[derive(Clone, Copy)]
-pub enum Joint {
-    Closed(Totals),
-    Member { file: usize, refusal: Refusal },
-    Refused(Reason),
-}
 
 // How many rows the files so far have, how many of these are kept, and how many of those are earned.
 #[derive(Clone, Copy)]
@@ -58,7 +47,7 @@ fn decide_joined(
 {
     // with no row there is nothing to choose, and the scratch may be too short for the tables
     if layout.rows == 0 {
-        clear(sheet);
+        u32::clear(sheet);
         return;
     }
     write_joined(files, lengths, day, shape_of(layout), oven, scratch);
@@ -87,19 +76,16 @@ fn count_files(files: &[u8], lengths: &[u32], day: usize, choice: &[u8]) -> Tall
     requires { JoinCounts day files.now lengths.now choice.now }
     ensures { TallyOf day files.now lengths.now choice.now result }
 {
-    let n = lengths.len();
     let mut tally = Tally {
         row: 0,
         earned: 0,
         kept: 0,
     };
     let mut at = 0;
-    let mut k = 0;
-    while k < n {
+    for k in 0..lengths.len() {
         let end = at + length_at(lengths, k);
         tally = count_member(&files[at..end], day, tally, choice);
         at = end;
-        k += 1;
     }
     tally
 }
@@ -119,7 +105,7 @@ fn close_joined(
     ensures { ClosedBy (instance_of (together day files.now lengths.now oven) layout) choice.new sheet.new scratch.new result }
 {
     decide_joined(files, lengths, oven, day, layout, choice, sheet, scratch);
-    clear(scratch);
+    u32::clear(scratch);
     let tally = count_files(files, lengths, day, choice);
     let earned = tally.earned;
     let kept = tally.kept;
@@ -142,7 +128,7 @@ fn settle_ready(
     choice: &mut [u8],
     sheet: &mut [u32],
     scratch: &mut [u32],
-) -> Settled
+) -> Result<Totals, Reason>
     requires { Joins day files.now lengths.now oven layout }
     ensures { SettlesOn (instance_of (together day files.now lengths.now oven) layout) day choice.old sheet.old scratch.old choice.new sheet.new scratch.new result }
 {
@@ -150,18 +136,18 @@ fn settle_ready(
     let marks = marks_of(layout);
     let cells = scratch_of(layout);
     if choice.len() < rows {
-        return Settled::Refused(Reason::Short);
+        return Err(Reason::Short);
     }
     if sheet.len() < marks {
-        return Settled::Refused(Reason::Short);
+        return Err(Reason::Short);
     }
     if scratch.len() < cells {
-        return Settled::Refused(Reason::Short);
+        return Err(Reason::Short);
     }
     if DAYS <= day {
-        return Settled::Refused(Reason::Day);
+        return Err(Reason::Day);
     }
-    Settled::Closed(close_joined(
+    Ok(close_joined(
         files,
         lengths,
         oven,
@@ -181,17 +167,8 @@ fn layout_of(sizes: Sizes, day: usize) -> Layout
     on_day(layout_for(sizes.cards, 1 + sizes.shops, sizes.rows), day)
 }
 
-fn joint_of(settled: Settled) -> Joint
-    ensures { result ≡ joint_of settled }
-{
-    match settled {
-        Settled::Closed(totals) => Joint::Closed(totals),
-        Settled::Refused(why) => Joint::Refused(why),
-    }
-}
-
-// Settles the files of up to eight counters together under an oven limit, by the limits of a day: as settle does with the joined file. The
-// lent buffers are those that settle needs for the joined file.
+// Settles the files of up to eight counters together under an oven limit, by the limits of a day: as settle does with the joined file: what
+// the joined day comes to, or why the call is turned away. The lent buffers are those that settle needs for the joined file.
 pub fn settle_joined(
     files: &[u8],
     lengths: &[u32],
@@ -200,22 +177,19 @@ pub fn settle_joined(
     choice: &mut [u8],
     sheet: &mut [u32],
     scratch: &mut [u32],
-) -> Joint
+) -> Result<Totals, Fault>
     ensures { JoinsAs day files.now lengths.now oven choice.old sheet.old scratch.old choice.new sheet.new scratch.new result }
 {
-    let judged = judge_files(files, lengths, day);
-    match judged {
-        Judged::Refused(why) => Joint::Refused(why),
-        Judged::Member { file, refusal } => Joint::Member { file, refusal },
-        Judged::Ready(sizes) => joint_of(settle_ready(
-            files,
-            lengths,
-            wide(oven),
-            day,
-            layout_of(sizes, day),
-            choice,
-            sheet,
-            scratch,
-        )),
-    }
+    let sizes = judge_files(files, lengths, day)?;
+    let totals = settle_ready(
+        files,
+        lengths,
+        usize::from(oven),
+        day,
+        layout_of(sizes, day),
+        choice,
+        sheet,
+        scratch,
+    )?;
+    Ok(totals)
 }

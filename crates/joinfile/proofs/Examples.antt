@@ -16,13 +16,13 @@ use Rattle.theory.specs.Search.{selections, more, nothing, search, best, best_ch
 use Rattle.claimfile.specs.File.{new_week}
 use Rattle.claimfile.specs.Day.{parent_of, written_of, limit_of, card_node, shop_node}
 use Rattle.reader.specs.Reading.{none_above, group_fault, claim_fault, records_from, count_fault, section_at, claims_at, reading_in, reading}
-use Rattle.reader.specs.declared.Reading.TheVariants.{Accepted}
 use Rattle.claimwriter.specs.Written.{records, section, file_bytes}
 use Rattle.counters.specs.Joined.{which}
 use Rattle.joinfile.specs.Examples.{files, layouts, joined_of, joined_bytes, best_under}
+use Rattle.std.specs.Prelude.{Ok}
 
 pub files-read :
-    map (λ (k : ℕ). reading (new_week 0) (files k)) (0 ∷ 1 ∷ []) ≡ map (λ (k : ℕ). Accepted (layouts k)) (0 ∷ 1 ∷ [])
+    map (λ (k : ℕ). reading (new_week 0) (files k)) (0 ∷ 1 ∷ []) ≡ map (λ (k : ℕ). Ok (layouts k)) (0 ∷ 1 ∷ [])
 unfolding none_above group_fault claim_fault records_from count_fault section_at claims_at reading_in every
 files-read = refl
 

@@ -26,7 +26,6 @@ use Rattle.claimfile.specs.declared.Layout.{Layout}
 use Rattle.claimfile.specs.declared.Group.{Group}
 use Rattle.claimfile.specs.declared.Claim.{Claim}
 use Rattle.reader.specs.Reading.{reading}
-use Rattle.reader.specs.declared.Reading.TheVariants.{Accepted}
 use Rattle.reader.proofs.AcceptedLaws.{accepted-kinds}
 use Rattle.claimwriter.specs.Written.{WeekGroup, on_day_of, Contents, records_on, Ranged}
 use Rattle.claimwriter.proofs.WrittenLaws.{written-group, written-claim, written-accepted, written-sound, written-bytes}
@@ -35,6 +34,7 @@ use Rattle.counters.proofs.PartLaws.{part_end, of_part-is, each_part}
 use Rattle.members.specs.Accepted.{Members}
 use Rattle.joinfile.specs.Files.{cards_in, shops_in, rows_in, card_group_in, shop_group_in, claim_in}
 use Rattle.joinfile.specs.Files.{joined_contents, joined_file, joined_layout, contents_of}
+use Rattle.std.specs.Prelude.{Ok}
 
 module _ (own parent first root : ℕ) where
   pub above-group : parent < own → above own parent first root ≡ first + parent
@@ -215,7 +215,7 @@ module _ (n : ℕ) (s : ℕ → List ℕ) (l : ℕ → Layout) (oven today : ℕ
       (λ k h. contents-ranged (s k) (l k) (all.sound k h) (all.kinds k h) (all.bytes k))
       all.cards_most all.shops_most all.rows_most (omega arith)
 
-  pub joined-accepted : reading (stored_week today) written ≡ Accepted laid
+  pub joined-accepted : reading (stored_week today) written ≡ Ok laid
   joined-accepted = written-accepted (joined_contents n (contents_of s l) oven) ranged true today (λ e. absurd (true≢false e))
 
   pub joined-sound : Sound written laid

@@ -9,7 +9,7 @@
 --   days_of day b ls        the days of the files in a buffer
 --   JoinGiven, JoinWrote   what writing all tables asks, and what it leaves
 --   FilledAll              what writing the files leaves, where the oven is written
-use Rattle.std.specs.Prelude.{◌≡◌, ◌⊎◌, List, length, ℕ, ◌+◌, ◌≤◌, ◌<◌}
+use Rattle.std.specs.Prelude.{◌≡◌, ◌⊎◌, List, length, ℕ, ◌+◌, ◌≤◌, ◌<◌, Ok}
 use Rattle.theory.specs.Sum.{sum}
 use Rattle.theory.specs.Lowered.{lesser}
 use Rattle.theory.specs.Capped.{capped}
@@ -18,7 +18,6 @@ use Rattle.theory.specs.Priority as priority
 use Rattle.claimfile.specs.File.{new_week}
 use Rattle.claimfile.specs.declared.Layout.{Layout}
 use Rattle.reader.specs.Reading.{reading}
-use Rattle.reader.specs.declared.Reading.TheVariants.{Accepted}
 use Rattle.claimwriter.specs.Written.{layout_in}
 use Rattle.scratch.specs.declared.Shape.{Shape}
 use Rattle.scratch.specs.Map.{max_spare, parents, spares, spare_of, parent_of, card_of, shop_of, weight_of, Room, Put}
@@ -62,7 +61,7 @@ abbrev pub layout_at : ℕ → List ℕ → Layout
 layout_at day s = layout_in (reading (new_week day) s)
 
 pub record MemberStands (day : ℕ) (s : List ℕ) (sh : Shape) (spot : Spot) (t : List ℕ) : Type 0 where
-  pub accepted : reading (new_week day) s ≡ Accepted (layout_at day s)
+  pub accepted : reading (new_week day) s ≡ Ok (layout_at day s)
   pub stands : Stands s (layout_at day s) sh spot t
 
 pub record WroteMember (day : ℕ) (s : List ℕ) (sh : Shape) (spot : Spot) (t t' : List ℕ) (r : Spot) : Type 0 where

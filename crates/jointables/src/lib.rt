@@ -35,8 +35,7 @@ fn write_member(file: &[u8], day: usize, sh: Shape, spot: Spot, scratch: &mut [u
     ensures { WroteMember day file.now sh spot scratch.old scratch.new result }
 {
     let layout = layout_in(file, day);
-    let mut no_cells = [0u64; 0];
-    write_file(file, layout, sh, spot, false, scratch, &mut no_cells);
+    write_file(file, layout, sh, spot, scratch);
     after(spot, layout)
 }
 
@@ -48,9 +47,8 @@ fn write_oven(sh: Shape, oven: usize, scratch: &mut [u32])
     let node = sh.cards;
     let sink = sh.groups + 1;
     let limit = cut_off(oven);
-    let mut no_cells = [0u64; 0];
-    set_parent(sh, node, sink, false, scratch, &mut no_cells);
-    set_spare(sh, node, limit, false, scratch, &mut no_cells);
+    set_parent(sh, node, sink, scratch);
+    set_spare(sh, node, limit, scratch);
 }
 
 // Writes the files, one after the other, under the oven that is written.
@@ -58,7 +56,6 @@ fn write_files(files: &[u8], lengths: &[u32], day: usize, sh: Shape, scratch: &m
     requires { JoinGiven day files.now lengths.now sh scratch.old }
     ensures { FilledAll day files.now lengths.now sh scratch.old scratch.new }
 {
-    let n = lengths.len();
     let mut spot = Spot {
         card: 0,
         shop: sh.cards + 1,
@@ -66,12 +63,10 @@ fn write_files(files: &[u8], lengths: &[u32], day: usize, sh: Shape, scratch: &m
         row: 0,
     };
     let mut at = 0;
-    let mut k = 0;
-    while k < n {
+    for k in 0..lengths.len() {
         let end = at + length_at(lengths, k);
         spot = write_member(&files[at..end], day, sh, spot, scratch);
         at = end;
-        k += 1;
     }
 }
 

@@ -14,16 +14,12 @@ use Rattle.theory.specs.Network.{Instance}
 use Rattle.theory.specs.Priority.{kept}
 use Rattle.claimfile.specs.declared.Layout.{Layout}
 use Rattle.reader.specs.declared.Refusal.{Refusal}
-use Rattle.reader.specs.declared.Reading.{Reading}
-use Rattle.reader.specs.declared.Reading.TheVariants as reading-is
 use Rattle.claimfile.specs.File.{second_terms, days}
-use Rattle.reader.specs.Reading.{reading_kinds}
+use Rattle.reader.specs.Reading.{reading_kinds, Reading}
 use Rattle.claimfile.specs.Day.{instance_of}
 use Rattle.reader.proofs.AcceptedLaws.{one-layout, one-refusal, not-both}
 use Rattle.refusal.specs.declared.Reason.TheVariants.{File, Short, Day}
 use Rattle.kinds.specs.declared.KindTotals.{KindTotals}
-use Rattle.kinds.specs.declared.SettledKinds.{SettledKinds}
-use Rattle.kinds.specs.declared.SettledKinds.TheVariants.{Closed, Refused}
 use Rattle.closing.specs.Settle.{needed, scratch_for, Enough, Lacks, best_row_in}
 use Rattle.closing.specs.Close.{ClosedIn}
 use Rattle.closing.specs.ClosesIn.{ClosesIn}
@@ -31,6 +27,8 @@ use Rattle.kinds.specs.Settle.{count_of, told_with, settled_kinds_numbers, told_
 use Rattle.kinds.specs.Settle.{SettlesKindsOn, SettlesKinds}
 use Rattle.closing.proofs.ClosesLaws.{best-count, best-all, best-sum, parts_in}
 use Rattle.closing.proofs.AnswerLaws.{not-enough, lacks-true, lacks-false}
+use Rattle.std.specs.Prelude.{Ok, Err, Result}
+use Rattle.refusal.specs.declared.Reason.{Reason}
 
 --------------------------------------------------------------------------------
 -- What is told
@@ -41,18 +39,18 @@ told_same f g a b x y same p q =
     rw (same 0 (omega arith), same 1 (omega arith), same 2 (omega arith), same 3 (omega arith), p, q)
 
 module _ (i : Instance) (d : ℕ) (ch sheet t : List ℕ) where
-  told-short : Lacks i.net ch sheet t → settled_kinds_numbers (Refused Short) ≡ told_kinds_on i d ch sheet t
+  told-short : Lacks i.net ch sheet t → settled_kinds_numbers (Err Short) ≡ told_kinds_on i d ch sheet t
   unfolding told_kinds_on
   told-short h = rw (lacks-true i.net ch sheet t h)
 
-  told-dayless : Enough i.net ch sheet t → days ≤ d → settled_kinds_numbers (Refused Day) ≡ told_kinds_on i d ch sheet t
+  told-dayless : Enough i.net ch sheet t → days ≤ d → settled_kinds_numbers (Err Day) ≡ told_kinds_on i d ch sheet t
   unfolding told_kinds_on
   told-dayless enough over = rw (lacks-false i.net ch sheet t enough, le-leb _ _ over)
 
   told-closed :
       (ch' sheet' t' : List ℕ) (a : KindTotals) →
       ClosesIn second_terms i ch sheet t ch' sheet' t' (count_of a) a.kept a.total → Enough i.net ch sheet t → d < days →
-      settled_kinds_numbers (Closed a) ≡ told_kinds_on i d ch sheet t
+      settled_kinds_numbers (Ok a) ≡ told_kinds_on i d ch sheet t
   unfolding told_kinds_on
   told-closed ch' sheet' t' a C enough known =
       rw (lacks-false i.net ch sheet t enough, lt-leb _ _ known)
@@ -64,7 +62,7 @@ module _ (i : Instance) (d : ℕ) (ch sheet t : List ℕ) where
   ------------------------------------------------------------------------------
   -- The answers for a day
 
-  pub kinds-short : (r : SettledKinds) → Lacks i.net ch sheet t → r ≡ Refused Short → SettlesKindsOn i d ch sheet t ch sheet t r
+  pub kinds-short : (r : Result KindTotals Reason) → Lacks i.net ch sheet t → r ≡ Err Short → SettlesKindsOn i d ch sheet t ch sheet t r
   kinds-short r short e = record {
     short = λ h. (e, record { choices = refl; sheets = refl; cells = refl });
     dayless = λ enough over. not-enough i.net ch sheet t enough short;
@@ -73,7 +71,7 @@ module _ (i : Instance) (d : ℕ) (ch sheet t : List ℕ) where
   }
 
   pub kinds-dayless :
-      (r : SettledKinds) → Enough i.net ch sheet t → days ≤ d → r ≡ Refused Day → SettlesKindsOn i d ch sheet t ch sheet t r
+      (r : Result KindTotals Reason) → Enough i.net ch sheet t → days ≤ d → r ≡ Err Day → SettlesKindsOn i d ch sheet t ch sheet t r
   kinds-dayless r enough over e = record {
     short = λ h. not-enough i.net ch sheet t enough h;
     dayless = λ h k. (e, record { choices = refl; sheets = refl; cells = refl });
@@ -84,7 +82,7 @@ module _ (i : Instance) (d : ℕ) (ch sheet t : List ℕ) where
   kinds-closes :
       (ch' sheet' t' : List ℕ) (a : KindTotals) → Enough i.net ch sheet t → d < days →
       ClosesIn second_terms i ch sheet t ch' sheet' t' (count_of a) a.kept a.total →
-      SettlesKindsOn i d ch sheet t ch' sheet' t' (Closed a)
+      SettlesKindsOn i d ch sheet t ch' sheet' t' (Ok a)
   kinds-closes ch' sheet' t' a enough known C = record {
     short = λ h. not-enough i.net ch sheet t enough h;
     dayless = λ h over. absurd (omega arith);
@@ -100,7 +98,7 @@ module _ (i : Instance) (d : ℕ) (ch sheet t : List ℕ) where
           (ch' sheet' t' : List ℕ) → length ch' ≡ length (take i.net.rows ch) → length sheet' ≡ length (take m sheet) →
           length t' ≡ length (take n t) → (a : KindTotals) → Enough i.net ch sheet t → d < days →
           ClosedIn second_terms i ch' sheet' t' (count_of a) a.kept a.total →
-          SettlesKindsOn i d ch sheet t (ch' ++ drop i.net.rows ch) (sheet' ++ drop m sheet) (t' ++ drop n t) (Closed a)
+          SettlesKindsOn i d ch sheet t (ch' ++ drop i.net.rows ch) (sheet' ++ drop m sheet) (t' ++ drop n t) (Ok a)
       kinds-closed ch' sheet' t' choices sheets cells a enough known C =
           kinds-closes _ _ _ a enough known
           (parts_in second_terms i ch sheet t m n e f four ch' sheet' t' choices sheets cells (count_of a) a.kept a.total enough C)
@@ -110,11 +108,11 @@ module _ (i : Instance) (d : ℕ) (ch sheet t : List ℕ) where
 
 module _ (d : ℕ) (s ch sheet t : List ℕ) where
   pub kinds-refused :
-      (why : Refusal) (r : SettledKinds) → reading_kinds d s ≡ reading-is.Refused why → r ≡ Refused (File why) →
+      (why : Refusal) (r : Result KindTotals Reason) → reading_kinds d s ≡ Err why → r ≡ Err (File why) →
       SettlesKinds d s ch sheet t ch sheet t r
   kinds-refused why r is e = record {
     refused = λ v p. (
-      e ∙ ap (λ (x : Refusal). Refused (File x)) (one-refusal (reading_kinds d s) why v is p),
+      e ∙ ap (λ (x : Refusal). Err (File x)) (one-refusal (reading_kinds d s) why v is p),
       record { choices = refl; sheets = refl; cells = refl },
     );
     settled = λ l p. not-both (reading_kinds d s) l why p is;
@@ -122,7 +120,7 @@ module _ (d : ℕ) (s ch sheet t : List ℕ) where
   }
 
   pub kinds-accepted :
-      (ch' sheet' t' : List ℕ) (r : SettledKinds) (l : Layout) → reading_kinds d s ≡ reading-is.Accepted l →
+      (ch' sheet' t' : List ℕ) (r : Result KindTotals Reason) (l : Layout) → reading_kinds d s ≡ Ok l →
       SettlesKindsOn (instance_of s l) l.day ch sheet t ch' sheet' t' r → SettlesKinds d s ch sheet t ch' sheet' t' r
   kinds-accepted ch' sheet' t' r l is S = record {
     refused = λ why p. not-both (reading_kinds d s) l why is p;

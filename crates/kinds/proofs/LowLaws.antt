@@ -11,8 +11,7 @@ use native.Mathlib.Omega.{arith}
 use lib.ListN.{length, get_or, set, length-set, get_or-eq_default}
 use lib.Seq.{get_or-set_same, get_or-set_other}
 use Rattle.claimfile.specs.declared.Layout.{Layout}
-use Rattle.scratch.specs.Memory.{low, lows}
-use Rattle.scratch.proofs.MemoryLaws.{lows-length, lows-at}
+use Rattle.scratch.specs.Memory.{low, lows, lows-long, lows-at}
 use Rattle.closing.specs.Close.{Lent}
 
 pub record Keeping (b b' : List ℕ) (n : ℕ) : Type 0 where
@@ -43,7 +42,7 @@ module _ (b b' : List ℕ) (n : ℕ) (K : Keeping b b' n) where
 
   pub keeping_all : length b' ≤ n → b' ≡ lows b
   keeping_all l =
-      same-cells b' (lows b) (K.long ∙ sym (lows-length b))
+      same-cells b' (lows b) (K.long ∙ sym (lows-long b))
       (λ i.
       elim (dec_lt i n) [
         | yes h ↦ K.done i h ∙ sym (lows-at b i)
@@ -58,6 +57,6 @@ lent-lows K sheet t L = record {
   sound = L.sound;
   kinds = L.kinds;
   choices = L.choices;
-  sheets = lows-length sheet ∙ L.sheets;
-  cells = lows-length t ∙ L.cells;
+  sheets = lows-long sheet ∙ L.sheets;
+  cells = lows-long t ∙ L.cells;
 }

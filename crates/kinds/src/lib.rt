@@ -17,10 +17,9 @@ ghost use Rattle.kinds.specs.Settle.{count_of, SettlesKindsOn, SettlesKinds};
 use claimfile::{DAYS, Layout};
 use closing::{marks_of, scratch_of};
 use instance::power;
-use reader::{Reading, read_kinds};
+use reader::read_kinds;
 use refusal::Reason;
-use scratch::cells::CELL_BOUND;
-use scratch::clear::clear_wide;
+use scratch::cells::{CELL_BOUND, Width};
 use selection::kept_of_kind;
 use solver::solve;
 use tables::write::{shape_of_kinds, write_tables};
@@ -34,12 +33,6 @@ pub struct KindTotals {
     pub kind3: usize,
     pub kept: usize,
     pub total: usize,
-}
-
-#[derive(Clone, Copy)]
-pub enum SettledKinds {
-    Closed(KindTotals),
-    Refused(Reason),
 }
 
 // What so many rows of each kind weigh, where there are so many rows.
@@ -73,10 +66,8 @@ fn count_kinds(file: &[u8], layout: Layout, choice: &[u8]) -> KindTotals
 fn keep_low(cells: &mut [u64])
     ensures { cells.new ≡ lows cells.old }
 {
-    let mut i = 0;
-    while i < cells.len() {
-        cells[i] = cells[i] % CELL_BOUND;
-        i += 1;
+    for i in 0..cells.len() {
+        cells[i] %= CELL_BOUND;
     }
 }
 
@@ -94,22 +85,12 @@ fn decide_kinds(
 {
     // with no row there is nothing to choose, and the scratch may be too short for the tables
     if layout.rows == 0 {
-        clear_wide(sheet);
+        u64::clear(sheet);
         return;
     }
     let sh = shape_of_kinds(layout);
-    let mut no_marks = [0u32; 0];
-    let mut no_cells = [0u32; 0];
-    write_tables(file, layout, sh, true, &mut no_cells, scratch);
-    solve(
-        sh,
-        choice,
-        true,
-        &mut no_marks,
-        sheet,
-        &mut no_cells,
-        scratch,
-    );
+    write_tables(file, layout, sh, scratch);
+    solve(sh, choice, sheet, scratch);
     keep_low(sheet);
 }
 
@@ -125,7 +106,7 @@ fn close_kinds(
     ensures { ClosedIn second_terms (instance_of file.now layout) choice.new sheet.new scratch.new (count_of result) result.kept result.total }
 {
     decide_kinds(file, layout, choice, sheet, scratch);
-    clear_wide(scratch);
+    u64::clear(scratch);
     count_kinds(file, layout, choice)
 }
 
@@ -137,7 +118,7 @@ pub fn settle_kinds_on(
     choice: &mut [u8],
     sheet: &mut [u64],
     scratch: &mut [u64],
-) -> SettledKinds
+) -> Result<KindTotals, Reason>
     requires { (Sound file.now layout) × (Kinds second_terms file.now layout) }
     ensures { SettlesKindsOn (instance_of file.now layout) layout.day choice.old sheet.old scratch.old choice.new sheet.new scratch.new result }
 {
@@ -145,18 +126,18 @@ pub fn settle_kinds_on(
     let marks = marks_of(layout);
     let cells = scratch_of(layout);
     if choice.len() < rows {
-        return SettledKinds::Refused(Reason::Short);
+        return Err(Reason::Short);
     }
     if sheet.len() < marks {
-        return SettledKinds::Refused(Reason::Short);
+        return Err(Reason::Short);
     }
     if scratch.len() < cells {
-        return SettledKinds::Refused(Reason::Short);
+        return Err(Reason::Short);
     }
     if DAYS <= layout.day {
-        return SettledKinds::Refused(Reason::Day);
+        return Err(Reason::Day);
     }
-    SettledKinds::Closed(close_kinds(
+    Ok(close_kinds(
         file,
         layout,
         &mut choice[..rows],
@@ -173,12 +154,9 @@ pub fn settle_kinds(
     choice: &mut [u8],
     sheet: &mut [u64],
     scratch: &mut [u64],
-) -> SettledKinds
+) -> Result<KindTotals, Reason>
     ensures { SettlesKinds day file.now choice.old sheet.old scratch.old choice.new sheet.new scratch.new result }
 {
-    let reading = read_kinds(file, day);
-    match reading {
-        Reading::Refused(why) => SettledKinds::Refused(Reason::File(why)),
-        Reading::Accepted(layout) => settle_kinds_on(file, layout, choice, sheet, scratch),
-    }
+    let layout = read_kinds(file, day)?;
+    settle_kinds_on(file, layout, choice, sheet, scratch)
 }

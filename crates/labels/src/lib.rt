@@ -5,12 +5,12 @@
 #![tactic(auto)]
 
 ghost use Rattle.std.specs.Prelude.{◌≤◌, ◌<◌, length};
-ghost use Rattle.scratch.specs.Memory.{memory};
 ghost use Rattle.residual.specs.Items.{Raw};
 ghost use Rattle.labels.specs.Label.{Reads, Coding};
 
 use entries::{SPAN, card, label, set_kept, shop, weight};
 use scratch::Shape;
+use scratch::cells::Width;
 
 // The labels of the nodes that are reached from the source, and of those that reach the sink.
 pub const FROM_SOURCE: usize = SPAN;
@@ -18,28 +18,16 @@ pub const FROM_SOURCE: usize = SPAN;
 pub const TO_SINK: usize = 2 * SPAN;
 
 // What the labels of row c's two nodes tell.
-fn code_at(sh: Shape, c: usize, wide: bool, scratch: &[u32], scratch64: &[u64]) -> u8
-    requires { Raw sh (memory wide scratch.now scratch64.now) × (c < sh.rows) }
-    ensures { Reads sh (memory wide scratch.now scratch64.now) c result }
+fn code_at<W: Width>(sh: Shape, c: usize, scratch: &[W]) -> u8
+    requires { Raw sh (W.memory scratch.now) × (c < sh.rows) }
+    ensures { Reads sh (W.memory scratch.now) c result }
 {
     let toll = sh.toll;
-    if weight(sh, c, wide, scratch, scratch64) != toll {
+    if weight(sh, c, scratch) != toll {
         return 0;
     }
-    let a = label(
-        sh,
-        card(sh, c, wide, scratch, scratch64),
-        wide,
-        scratch,
-        scratch64,
-    );
-    let b = label(
-        sh,
-        shop(sh, c, wide, scratch, scratch64),
-        wide,
-        scratch,
-        scratch64,
-    );
+    let a = label(sh, card(sh, c, scratch), scratch);
+    let b = label(sh, shop(sh, c, scratch), scratch);
     if a != b {
         return 3;
     }
@@ -53,15 +41,12 @@ fn code_at(sh: Shape, c: usize, wide: bool, scratch: &[u32], scratch64: &[u64]) 
 }
 
 // Puts the code of each row in its byte.
-pub fn put_codes(sh: Shape, codes: &mut [u8], wide: bool, scratch: &[u32], scratch64: &[u64])
-    requires { Raw sh (memory wide scratch.now scratch64.now) × (sh.rows ≤ length codes.old) }
-    ensures { Coding sh (memory wide scratch.now scratch64.now) codes.old codes.new sh.rows }
+pub fn put_codes<W: Width>(sh: Shape, codes: &mut [u8], scratch: &[W])
+    requires { Raw sh (W.memory scratch.now) × (sh.rows ≤ length codes.old) }
+    ensures { Coding sh (W.memory scratch.now) codes.old codes.new sh.rows }
 {
-    let rows = sh.rows;
-    let mut c = 0;
-    while c < rows {
-        let code = code_at(sh, c, wide, scratch, scratch64);
+    for c in 0..sh.rows {
+        let code = code_at(sh, c, scratch);
         set_kept(c, code, codes);
-        c += 1;
     }
 }

@@ -23,27 +23,25 @@ use Rattle.theory.specs.Network.{Instance}
 use Rattle.claimfile.specs.declared.Form.{Form}
 use Rattle.claimfile.specs.declared.Layout.{Layout}
 use Rattle.claimfile.specs.declared.Claim.{Claim}
-use Rattle.reader.specs.declared.Reading.{Reading}
-use Rattle.reader.specs.declared.Reading.TheVariants.{Accepted}
 use Rattle.claimfile.specs.File.{days}
-use Rattle.reader.specs.Reading.{reading}
+use Rattle.reader.specs.Reading.{reading, Reading}
 use Rattle.claimfile.specs.Day.{claim_of, network_of, instance_of, on_day, limit_of, written_of, parent_of, card_node, shop_node}
 use Rattle.claimwriter.specs.Week.{week_form, as_week, week_layout}
 use Rattle.reader.proofs.AcceptedLaws.{one-layout}
 use Rattle.claimwriter.proofs.WeekLaws.{week-accepted, week-claim, week-day}
 use Rattle.refusal.specs.declared.Reason.TheVariants.{Short, Day, Value}
-use Rattle.refusal.specs.declared.Written.{Written}
 use Rattle.refusal.specs.Writing.{turned, written, written_numbers}
 use Rattle.selection.specs.Selection.{bits, is_kept, count, kept_rows}
-use Rattle.closing.specs.declared.Settled.{Settled}
 use Rattle.closing.specs.Settle.{needed, Lacks, lacks, told_on, SettlesOn, Settles}
 use Rattle.closing.specs.Settle as closing-settle
 use Rattle.closing.proofs.AnswerLaws.{settles-accepted}
-use Rattle.accept.specs.declared.Verdict.TheVariants.{Refused}
 use Rattle.accept.specs.Accept.{judged, verdict_by, verdict}
 use Rattle.codes.specs.Write.{Enough, Leaves, answer_for, Writes}
 use Rattle.slip.specs.Slip.{first_line, row_line, kept_line, kept_lines, slip}
 use Rattle.slip.specs.Write as slip-write
+use Rattle.std.specs.Prelude.{Ok, Err, Result}
+use Rattle.refusal.specs.declared.Reason.{Reason}
+use Rattle.closing.specs.declared.Totals.{Totals}
 
 --------------------------------------------------------------------------------
 -- Two days that need the same lengths, and that are one where the week has the day
@@ -56,7 +54,7 @@ unfolding told_on
 dayless-told i j d ch sheet u over e = rw (le-leb _ _ over, e)
 
 settled-across :
-    (i j : Instance) (d : ℕ) (ch sheet u ch' sheet' u' : List ℕ) (r : Settled) →
+    (i j : Instance) (d : ℕ) (ch sheet u ch' sheet' u' : List ℕ) (r : Result Totals Reason) →
     (Lacks j.net ch sheet u → Lacks i.net ch sheet u) →
     (closing-settle.Enough j.net ch sheet u → closing-settle.Enough i.net ch sheet u) →
     lacks i.net ch sheet u ≡ lacks j.net ch sheet u → (d < days → i ≡ j) → SettlesOn i d ch sheet u ch' sheet' u' r →
@@ -74,8 +72,8 @@ settled-across i j d ch sheet u ch' sheet' u' r short enough test same S =
     ]
 
 codes-across :
-    (x y : Form) (v w : List ℕ) (a b : Layout) (codes u codes' u' : List ℕ) (r : Written) → reading x v ≡ Accepted a →
-    reading y w ≡ Accepted b → answer_for (reading x v) v codes u ≡ answer_for (reading y w) w codes u →
+    (x y : Form) (v w : List ℕ) (a b : Layout) (codes u codes' u' : List ℕ) (r : Result ℕ Reason) → reading x v ≡ Ok a →
+    reading y w ≡ Ok b → answer_for (reading x v) v codes u ≡ answer_for (reading y w) w codes u →
     (Enough (network_of w b) codes u → Enough (network_of v a) codes u) → a.day ≡ b.day →
     (a.day < days → instance_of v a ≡ instance_of w b) → Writes x v codes u codes' u' r → Writes y w codes u codes' u' r
 codes-across x y v w a b codes u codes' u' r here there answers enough day same W =
@@ -114,7 +112,7 @@ unfolding limit_of written_of parent_of card_node shop_node
 old-days s l d e old = subst (λ (b : Bool). instance_of s (placed l b d) ≡ instance_of s (placed l b e)) (sym old) refl
 
 module _
-    (f : Form) (s : List ℕ) (l : Layout) (is : reading f s ≡ Accepted l) (bytes : (i : ℕ) → get_or s i 0 < 256)
+    (f : Form) (s : List ℕ) (l : Layout) (is : reading f s ≡ Ok l) (bytes : (i : ℕ) → get_or s i 0 < 256)
   where
     abbrev g : Form
     g = week_form f
@@ -125,7 +123,7 @@ module _
     abbrev m : Layout
     m = week_layout l
 
-    there : reading g t ≡ Accepted m
+    there : reading g t ≡ Ok m
     there = week-accepted f s l is bytes
 
     same-claims : claim_of s l ≡ claim_of t m
@@ -139,7 +137,7 @@ module _
     -- Settle
 
     pub settles-week :
-        (ch sheet u ch' sheet' u' : List ℕ) (r : Settled) →
+        (ch sheet u ch' sheet' u' : List ℕ) (r : Result Totals Reason) →
         Settles f s ch sheet u ch' sheet' u' r ↔ Settles (week_form f) (as_week s l) ch sheet u ch' sheet' u' r
     settles-week ch sheet u ch' sheet' u' r = (
       λ S.
@@ -186,7 +184,7 @@ module _
     -- The codes
 
     pub codes-week :
-        (codes u codes' u' : List ℕ) (r : Written) →
+        (codes u codes' u' : List ℕ) (r : Result ℕ Reason) →
         Writes f s codes u codes' u' r ↔ Writes (week_form f) (as_week s l) codes u codes' u' r
     codes-week codes u codes' u' r = (
       codes-across f g s t l m codes u codes' u' r is there answers (λ e. record { bytes = e.bytes; cells = e.cells }) refl same-day,
@@ -208,9 +206,9 @@ module _
           | yes known ↦
               ap
               (λ (i : Instance).
-              pick (ltb (length ch) l.rows) (Refused Short)
-              (pick (ltb (length sheet) (needed (network_of s l))) (Refused Short)
-              (pick (leb days l.day) (Refused Day) (pick (bits l.rows ch) (judged i ch sheet) (Refused Value)))))
+              pick (ltb (length ch) l.rows) (Err Short)
+              (pick (ltb (length sheet) (needed (network_of s l))) (Err Short)
+              (pick (leb days l.day) (Err Day) (pick (bits l.rows ch) (judged i ch sheet) (Err Value)))))
               (same-day known)
           | no h ↦
               let over : days ≤ l.day = omega arith in

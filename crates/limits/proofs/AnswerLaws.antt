@@ -1,9 +1,8 @@
 -- Laws of the answers of fits and rank.
 --   ranked-value ranked-side   the answer of fits and rank for an accepted file, one law a case
 --   answered-by                an answer that is as defined says what it means, and its rank is at most 512
-use mathlib.Core.Path.{◌≡◌, refl, sym, ap, ap₂, ◌∙◌, subst}
+use mathlib.Core.Path.{◌≡◌, refl, sym, ap, ◌∙◌, subst}
 use mathlib.Core.List.{List}
-use mathlib.Core.Bool.{Bool}
 use mathlib.Core.Logic.{inl, inr}
 use Prim.Native.Nat.{ℕ, ◌≤◌, ◌<◌, zero-le}
 use native.Mathlib.Decide.{dec_lt}
@@ -14,20 +13,14 @@ use Rattle.theory.specs.Incidence.{Selection}
 use Rattle.theory.specs.Matroid.{Rank, row}
 use Rattle.theory.specs.Network.{FitsSide}
 use Rattle.theory.proofs.SumLaws.{sum_bound}
-use Rattle.reader.specs.Reading.{reading_in}
+use Rattle.reader.specs.Reading.{reading_in, Reading}
 use Rattle.claimfile.specs.Day.{instance_of}
 use Rattle.claimfile.specs.declared.Form.{Form}
 use Rattle.claimfile.specs.declared.Layout.{Layout}
-use Rattle.reader.specs.declared.Reading.{Reading}
-use Rattle.reader.specs.declared.Reading.TheVariants as reading-is
 use Rattle.reader.proofs.AcceptedLaws.{accords-in}
 use Rattle.refusal.specs.declared.Reason.{Reason}
 use Rattle.refusal.specs.declared.Reason.TheVariants.{File, Value}
 use Rattle.refusal.proofs.TableLaws.{number-some}
-use Rattle.limits.specs.declared.Entry.{Entry}
-use Rattle.limits.specs.declared.Entry.TheVariants.{Entered, Turned}
-use Rattle.limits.specs.declared.Ranked.{Ranked}
-use Rattle.limits.specs.declared.Ranked.TheVariants as ranked-is
 use Rattle.sides.specs.declared.Found.{Found}
 use Rattle.sides.specs.Found.{found_on, Told}
 use Rattle.limits.specs.Answers.{entered_in}
@@ -35,66 +28,64 @@ use Rattle.limits.specs.Answers.{ranked_by, ranked_in, ranked_numbers, AnsweredI
 use Rattle.sides.specs.Ready.{Ready}
 use Rattle.sides.proofs.FoundLaws.{found-means}
 use Rattle.limits.proofs.EntryLaws.{entered_by_lem, entering}
+use Rattle.std.specs.Prelude.{Ok, Err, Result}
 
 --------------------------------------------------------------------------------
 -- Fits and rank
 
 module _ (s sel : List ℕ) (side : ℕ) where
-  ranked-by : (K : ℕ) (f : Form) (x : Entry) → entered_in K f s sel ≡ x → ranked_in K f s sel side ≡ ranked_by s sel side x
+  ranked-by : (K : ℕ) (f : Form) (x : Result Layout Reason) → entered_in K f s sel ≡ x → ranked_in K f s sel side ≡ ranked_by s sel side x
   unfolding ranked_in
   ranked-by K f x e = ap (ranked_by s sel side) e
 
   module _ (l : Layout) where
-    pub ranked-value : 1 < side → ranked-is.Refused Value ≡ ranked_by s sel side (Entered l)
+    pub ranked-value : 1 < side → Err Value ≡ ranked_by s sel side (Ok l)
     ranked-value h = rw (lt-ltb _ _ h)
 
-    -- b and n are what was found
     pub ranked-side :
-        side ≤ 1 → (f : Found) → f ≡ found_on (instance_of s l) sel side → (b : Bool) (n : ℕ) → b ≡ f.fits → n ≡ f.rank →
-        ranked-is.Told b n ≡ ranked_by s sel side (Entered l)
-    ranked-side h f e b n p q =
-        rw (le-ltb _ _ h) (ap₂ ranked-is.Told p q ∙ ap (λ (x : Found). ranked-is.Told x.fits x.rank) e)
+        side ≤ 1 → (found : Found) → found ≡ found_on (instance_of s l) sel side → Ok found ≡ ranked_by s sel side (Ok l)
+    ranked-side h found e = rw (le-ltb _ _ h) (ap Ok e)
 
 -- a rank is at most the number of rows
 rank-rows :
     (N : ℕ) (Fit : (ℕ → ℕ) → Type 0) (X : ℕ → ℕ) (n : ℕ) → Rank N (λ Y. Selection N Y × Fit Y) X n → n ≤ N
 rank-rows N Fit X n k = omega (arith, k.is, sum_bound N 1 k.ind.0)
 
-module _ (K : ℕ) (f : Form) (s sel : List ℕ) (side : ℕ) (r : Ranked) (is : r ≡ ranked_in K f s sel side) where
+module _ (K : ℕ) (f : Form) (s sel : List ℕ) (side : ℕ) (r : Result Found Reason) (is : r ≡ ranked_in K f s sel side) where
   -- a refusal's number is not 0
-  not-refused : {A : Type 0} (why : Reason) → (ranked_numbers r).refusal ≡ 0 → r ≡ ranked-is.Refused why → A
+  not-refused : {A : Type 0} (why : Reason) → (ranked_numbers r).refusal ≡ 0 → r ≡ Err why → A
   not-refused why none e = absurd (omega (arith, number-some why, ap (λ x. (ranked_numbers x).refusal) e))
 
   means-entered :
-      (l : Layout) → (ranked_numbers r).refusal ≡ 0 → entered_in K f s sel ≡ Entered l → Ready s sel l →
+      (l : Layout) → (ranked_numbers r).refusal ≡ 0 → entered_in K f s sel ≡ Ok l → Ready s sel l →
       Told (instance_of s l) sel side (ranked_numbers r).fits (ranked_numbers r).rank
   means-entered l none e ready =
       elim (dec_lt 1 side) [
         | yes h ↦ not-refused Value none (by ∙ sym (ranked-value s sel side l h))
         | no h ↦
-            subst (λ (x : Ranked). Told (instance_of s l) sel side (ranked_numbers x).fits (ranked_numbers x).rank)
-            (ranked-side s sel side l (omega arith) (found_on (instance_of s l) sel side) refl _ _ refl refl ∙ sym by)
+            subst (λ (x : Result Found Reason). Told (instance_of s l) sel side (ranked_numbers x).fits (ranked_numbers x).rank)
+            (ranked-side s sel side l (omega arith) (found_on (instance_of s l) sel side) refl ∙ sym by)
             (found-means s sel l ready side)
       ]
     where
-      by : r ≡ ranked_by s sel side (Entered l)
-      by = is ∙ ranked-by s sel side K f (Entered l) e
+      by : r ≡ ranked_by s sel side (Ok l)
+      by = is ∙ ranked-by s sel side K f (Ok l) e
 
   means :
-      (l : Layout) → reading_in K f s ≡ reading-is.Accepted l → (ranked_numbers r).refusal ≡ 0 →
+      (l : Layout) → reading_in K f s ≡ Ok l → (ranked_numbers r).refusal ≡ 0 →
       Told (instance_of s l) sel side (ranked_numbers r).fits (ranked_numbers r).rank
   means l e none =
       elim (entering K f s sel l e) [
-        | inl q ↦ not-refused q.0 none (is ∙ ranked-by s sel side K f (Turned q.0) q.1)
+        | inl q ↦ not-refused q.0 none (is ∙ ranked-by s sel side K f (Err q.0) q.1)
         | inr q ↦ means-entered l none q.0 q.1
       ]
 
-  told-most : (x : Ranked) → r ≡ x → (y : Reading) → reading_in K f s ≡ y → (ranked_numbers x).rank ≤ max_rows
-  told-most (ranked-is.Refused why) e y h = zero-le
-  told-most (ranked-is.Told b n) e (reading-is.Refused why) h =
+  told-most : (x : Result Found Reason) → r ≡ x → (y : Reading) → reading_in K f s ≡ y → (ranked_numbers x).rank ≤ max_rows
+  told-most (Err why) e y h = zero-le
+  told-most (Ok found) e (Err why) h =
       not-refused (File why) (ap (λ x. (ranked_numbers x).refusal) e)
-      (is ∙ ranked-by s sel side K f (Turned (File why)) (entered_by_lem K f s sel (reading-is.Refused why) h))
-  told-most (ranked-is.Told b n) e (reading-is.Accepted l) h =
+      (is ∙ ranked-by s sel side K f (Err (File why)) (entered_by_lem K f s sel (Err why) h))
+  told-most (Ok found) e (Ok l) h =
       let d = instance_of s l in
       omega (
         arith,
@@ -110,7 +101,7 @@ module _ (K : ℕ) (f : Form) (s sel : List ℕ) (side : ℕ) (r : Ranked) (is :
 
 -- the same of what the call answers: y is the entry that was found, x what it is
 pub answered-by :
-    (K : ℕ) (f : Form) (s sel : List ℕ) (side : ℕ) (r : Ranked) (y x : Entry) → y ≡ entered_in K f s sel → y ≡ x →
+    (K : ℕ) (f : Form) (s sel : List ℕ) (side : ℕ) (r : Result Found Reason) (y x : Result Layout Reason) → y ≡ entered_in K f s sel → y ≡ x →
     r ≡ ranked_by s sel side x →
     AnsweredIn K f s sel side r
 answered-by K f s sel side r y x e q is = answered K f s sel side r (is ∙ sym (ranked-by s sel side K f x (sym e ∙ q)))

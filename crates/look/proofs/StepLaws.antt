@@ -11,7 +11,6 @@ use mathlib.Core.List.{List}
 use Prim.Native.Nat.{ℕ, ◌+◌, ◌≤◌, ◌<◌, ◌-◌}
 use native.Mathlib.Omega.{arith}
 use lib.Dec.{eqb}
-use lib.ListN.{get_or}
 use borrow.Author.Tests.{eqb-true, eq-eqb}
 use Rattle.theory.specs.Bounds.{cell_bound}
 use Rattle.theory.specs.Sum.{pick}
@@ -26,7 +25,7 @@ use Rattle.scratch.specs.View.{net_of, residual_of}
 use Rattle.residual.specs.State.{Priced, Ready}
 use Rattle.residual.specs.Items.{Lists, AtItem, RowItem, ChildItem}
 use Rattle.look.specs.Look.{Looking, Looked, Ends, Reached, Tried, Leads}
-use Rattle.scratch.proofs.MapLaws.{keeps_then, put_keeps, room-keeps, residual-same, table-small}
+use Rattle.scratch.proofs.MapLaws.{keeps_then, put_keeps, room-keeps, residual-same}
 use Rattle.residual.proofs.LinkLaws.{links-keep, item-shop}
 use Rattle.look.proofs.ReachLaws.{reached-most}
 use Rattle.residual.proofs.ListLaws.{child-of, row_of}
@@ -89,11 +88,11 @@ Only b x r = r ≡ pick b x 0
 module _
     (sh : Shape) (t : List ℕ) (v e : ℕ) (b : Bool) {was k : ℕ} (at : was ≡ label_of sh t v) (o : Only (b && eqb was sh.fresh) (e + 1) k)
   where
-    pub label-fits : Few sh → e + 1 < span → ((j : ℕ) → get_or t j 0 < cell_bound) → was + k < cell_bound
+    pub label-fits : Few sh → e + 1 < span → was < cell_bound → was + k < cell_bound
     label-fits F l m =
         ⊎_elim
         (λ h. omega (arith, F.fresh, (picked _ o).0 h, eqb-true was sh.fresh (and-true b (eqb was sh.fresh) h).1))
-        (λ h. omega (arith, (picked _ o).1 h, table-small sh t labels v m))
+        (λ h. omega (arith, (picked _ o).1 h, m))
         (either (b && eqb was sh.fresh))
 
     pub tried_of :

@@ -9,11 +9,11 @@
 pub mod splice;
 mod step;
 
-ghost use Rattle.scratch.specs.Memory.{memory};
 ghost use Rattle.meet.specs.Meet.{Asked, Held, Begun, Met};
 
 use entries::{SPAN, queue, set_label, set_queue};
 use scratch::Shape;
+use scratch::cells::Width;
 use step::{scan_in, scan_out};
 
 // How many nodes are reached in a direction, and an arc that leads to the other end, plus 1; or 0.
@@ -35,49 +35,40 @@ pub struct Ends {
 }
 
 // Both ends are reached, by a number that no arc has.
-fn start_both(
+fn start_both<W: Width>(
     sh: Shape,
     start: usize,
     target: usize,
     choice: &[u8],
-    wide: bool,
-    sheet: &[u32],
-    sheet64: &[u64],
-    scratch: &mut [u32],
-    scratch64: &mut [u64],
+    sheet: &[W],
+    scratch: &mut [W],
 )
-    requires { Asked sh choice.now (memory wide sheet.now sheet64.now) (memory wide scratch.old scratch64.old) start target }
-    ensures { let sheet₀ = memory wide sheet.now sheet64.now in
-        let scratch₀ = memory wide scratch.old scratch64.old in
-        let scratch' = memory wide scratch.new scratch64.new in
-        Held sh choice.now sheet₀ scratch₀ scratch' start target 1 1 }
+    requires { Asked sh choice.now (W.memory sheet.now) (W.memory scratch.old) start target }
+    ensures { Held sh choice.now (W.memory sheet.now) (W.memory scratch.old) (W.memory scratch.new) start target 1 1 }
 {
     let g = sh.groups;
     let rows = sh.rows;
     let fresh = sh.fresh;
     let name = fresh + 2 * g + rows + 1;
-    set_label(sh, start, name, wide, scratch, scratch64);
-    set_queue(sh, 0, start, wide, scratch, scratch64);
-    set_label(sh, target, name + SPAN, wide, scratch, scratch64);
-    set_queue(sh, g + 2, target, wide, scratch, scratch64);
+    set_label(sh, start, name, scratch);
+    set_queue(sh, 0, start, scratch);
+    set_label(sh, target, name + SPAN, scratch);
+    set_queue(sh, g + 2, target, scratch);
 }
 
 // Goes on from the two ends, one node after another: from the end that has reached fewer.
-fn spread_both(
+fn spread_both<W: Width>(
     sh: Shape,
     start: usize,
     target: usize,
     choice: &[u8],
-    wide: bool,
-    sheet: &[u32],
-    sheet64: &[u64],
-    scratch: &mut [u32],
-    scratch64: &mut [u64],
+    sheet: &[W],
+    scratch: &mut [W],
 ) -> Ends
-    requires { Begun sh choice.now (memory wide sheet.now sheet64.now) (memory wide scratch.old scratch64.old) start target }
-    ensures { let sheet₀ = memory wide sheet.now sheet64.now in
-        let scratch₀ = memory wide scratch.old scratch64.old in
-        let scratch' = memory wide scratch.new scratch64.new in
+    requires { Begun sh choice.now (W.memory sheet.now) (W.memory scratch.old) start target }
+    ensures { let sheet₀ = W.memory sheet.now in
+        let scratch₀ = W.memory scratch.old in
+        let scratch' = W.memory scratch.new in
         ((B : Begun sh choice.now sheet₀ scratch₀ start target) →
         Met sh choice.now sheet₀ B.old scratch' start target result.n result.m result.hit result.out) }
 {
@@ -87,20 +78,17 @@ fn spread_both(
     let mut h: usize = 0;
     let mut k: usize = 0;
     let mut hit: usize = 0;
+    // stays: both queues grow while they are gone through, and the two ends take turns
     while (h < n) & (k < m) & (hit == 0) {
         if n <= m {
-            let u = queue(sh, h, wide, scratch, scratch64);
-            let seen = scan_out(
-                sh, u, n, m, choice, wide, sheet, sheet64, scratch, scratch64,
-            );
+            let u = queue(sh, h, scratch);
+            let seen = scan_out(sh, u, n, m, choice, sheet, scratch);
             n = seen.count;
             hit = seen.hit;
             h += 1;
         } else {
-            let u = queue(sh, g + 2 - k, wide, scratch, scratch64);
-            let seen = scan_in(
-                sh, u, m, n, choice, wide, sheet, sheet64, scratch, scratch64,
-            );
+            let u = queue(sh, g + 2 - k, scratch);
+            let seen = scan_in(sh, u, m, n, choice, sheet, scratch);
             m = seen.count;
             hit = seen.hit;
             k += 1;
@@ -111,27 +99,20 @@ fn spread_both(
 }
 
 // Searches from both ends.
-pub fn search_both(
+pub fn search_both<W: Width>(
     sh: Shape,
     start: usize,
     target: usize,
     choice: &[u8],
-    wide: bool,
-    sheet: &[u32],
-    sheet64: &[u64],
-    scratch: &mut [u32],
-    scratch64: &mut [u64],
+    sheet: &[W],
+    scratch: &mut [W],
 ) -> Ends
-    requires { Asked sh choice.now (memory wide sheet.now sheet64.now) (memory wide scratch.old scratch64.old) start target }
-    ensures { let sheet₀ = memory wide sheet.now sheet64.now in
-        let scratch₀ = memory wide scratch.old scratch64.old in
-        let scratch' = memory wide scratch.new scratch64.new in
+    requires { Asked sh choice.now (W.memory sheet.now) (W.memory scratch.old) start target }
+    ensures { let sheet₀ = W.memory sheet.now in
+        let scratch₀ = W.memory scratch.old in
+        let scratch' = W.memory scratch.new in
         Met sh choice.now sheet₀ scratch₀ scratch' start target result.n result.m result.hit result.out }
 {
-    start_both(
-        sh, start, target, choice, wide, sheet, sheet64, scratch, scratch64,
-    );
-    spread_both(
-        sh, start, target, choice, wide, sheet, sheet64, scratch, scratch64,
-    )
+    start_both(sh, start, target, choice, sheet, scratch);
+    spread_both(sh, start, target, choice, sheet, scratch)
 }

@@ -22,38 +22,39 @@ use Rattle.reader.proofs.StoredLaws.{new-limits}
 use Rattle.refusal.specs.declared.Reason.{Reason}
 use Rattle.refusal.specs.declared.Reason.TheVariants.{Files, Large}
 use Rattle.members.specs.declared.Sizes.{Sizes}
-use Rattle.members.specs.declared.Judged.{Judged}
-use Rattle.members.specs.declared.Judged.TheVariants.{Ready, Member, Refused}
 use Rattle.members.specs.Members.{most_files, length_of, member_of, reading_of, layouts_of, lengths_fit, Gathered, AllOf, Faulty, gathered}
 use Rattle.members.specs.Members.{too_large, judged_by, judged}
 use Rattle.members.specs.Accepted.{AllRead}
 use Rattle.members.proofs.GatherLaws.{fit-lengths, fault-place, Taken, gathered-taken, sizes-large, sizes-ready, small-enough, judged-files, judged-by}
+use Rattle.members.specs.declared.Fault.TheVariants.{Member, Whole}
+use Rattle.std.specs.Prelude.{Ok, Err, Result}
+use Rattle.members.specs.declared.Fault.{Fault}
 
-pub one-member : (g : Judged) (j k : ℕ) (v w : Refusal) → g ≡ Member j v → g ≡ Member k w → (j ≡ k) × (v ≡ w)
+pub one-member : (g : Result Sizes Fault) (j k : ℕ) (v w : Refusal) → g ≡ Err (Member j v) → g ≡ Err (Member k w) → (j ≡ k) × (v ≡ w)
 one-member g j k v w p q = (cc, cc)
 
-pub one-reason : (g : Judged) (v w : Reason) → g ≡ Refused v → g ≡ Refused w → v ≡ w
+pub one-reason : (g : Result Sizes Fault) (v w : Reason) → g ≡ Err (Whole v) → g ≡ Err (Whole w) → v ≡ w
 one-reason g v w p q = cc
 
-one_size : (g : Judged) (y z : Sizes) → g ≡ Ready y → g ≡ Ready z → y ≡ z
+one_size : (g : Result Sizes Fault) (y z : Sizes) → g ≡ Ok y → g ≡ Ok z → y ≡ z
 one_size g y z p q = cc
 
-pub not-member : {A : Type 0} (g : Judged) (k : ℕ) (why : Refusal) (z : Sizes) → g ≡ Member k why → g ≡ Ready z → A
+pub not-member : {A : Type 0} (g : Result Sizes Fault) (k : ℕ) (why : Refusal) (z : Sizes) → g ≡ Err (Member k why) → g ≡ Ok z → A
 not-member g k why z p q =
     let e : ◌≡◌ {A = ℕ} 0 1 = cc in
     absurd (omega arith)
 
-pub not-refused : {A : Type 0} (g : Judged) (why : Reason) (z : Sizes) → g ≡ Refused why → g ≡ Ready z → A
+pub not-refused : {A : Type 0} (g : Result Sizes Fault) (why : Reason) (z : Sizes) → g ≡ Err (Whole why) → g ≡ Ok z → A
 not-refused g why z p q =
     let e : ◌≡◌ {A = ℕ} 0 1 = cc in
     absurd (omega arith)
 
-pub not-both : {A : Type 0} (g : Judged) (k : ℕ) (why : Refusal) (v : Reason) → g ≡ Member k why → g ≡ Refused v → A
+pub not-both : {A : Type 0} (g : Result Sizes Fault) (k : ℕ) (why : Refusal) (v : Reason) → g ≡ Err (Member k why) → g ≡ Err (Whole v) → A
 not-both g k why v p q =
     let e : ◌≡◌ {A = ℕ} 0 1 = cc in
     absurd (omega arith)
 
-module _ (day : ℕ) (b ls : List ℕ) (k : ℕ) (why : Refusal) (is : judged day b ls ≡ Member k why) where
+module _ (day : ℕ) (b ls : List ℕ) (k : ℕ) (why : Refusal) (is : judged day b ls ≡ Err (Member k why)) where
   place : lengths_fit (length b) ls ≡ true → (g : Gathered) → gathered (reading_of day b ls) (length ls) ≡ g → k < most_files
   place fit (Faulty j w) found =
       omega (
@@ -91,7 +92,7 @@ part_bytes b ls bytes k i =
           )
     ]
 
-module _ (day : ℕ) (b ls : List ℕ) (bytes : (i : ℕ) → get_or b i 0 < 256) (z : Sizes) (ready : judged day b ls ≡ Ready z) where
+module _ (day : ℕ) (b ls : List ℕ) (bytes : (i : ℕ) → get_or b i 0 < 256) (z : Sizes) (ready : judged day b ls ≡ Ok z) where
   pub record Found : Type 0 where
     pub read : AllRead day b ls
     pub taken : Taken (reading_of day b ls) (length ls) z

@@ -24,18 +24,17 @@ use Rattle.theory.proofs.SumLaws.{sum_bound}
 use Rattle.claimfile.specs.File.{new_week}
 use Rattle.claimfile.specs.Sound.{Sound}
 use Rattle.claimfile.specs.declared.Layout.{Layout}
-use Rattle.reader.specs.Reading.{reading}
+use Rattle.reader.specs.Reading.{reading, Reading}
 use Rattle.reader.specs.declared.Refusal.{Refusal}
-use Rattle.reader.specs.declared.Reading.{Reading}
-use Rattle.reader.specs.declared.Reading.TheVariants as reading-is
 use Rattle.reader.proofs.AcceptedLaws.{accepted-sound}
 use Rattle.claimwriter.specs.Written.{layout_in}
 use Rattle.counters.proofs.PartLaws.{part_end}
 use Rattle.refusal.specs.declared.Reason.TheVariants.{Files, Large}
 use Rattle.members.specs.declared.Sizes.{Sizes}
-use Rattle.members.specs.declared.Judged.TheVariants.{Ready, Refused}
 use Rattle.members.specs.Members.{most_files, length_of, part_at, member_of, reading_of, layouts_of, lengths_fit, none, more}
 use Rattle.members.specs.Members.{Gathered, AllOf, Faulty, and_then, gathered, too_large, judged_by, judged}
+use Rattle.members.specs.declared.Fault.TheVariants.{Whole}
+use Rattle.std.specs.Prelude.{Ok, Err}
 
 --------------------------------------------------------------------------------
 -- The lengths
@@ -110,7 +109,7 @@ module _ (rd : ℕ → Reading) where
   next k = ap (gathered rd) (add-one k) ∙ gathered-suc k
 
   pub gathered-more :
-      (k : ℕ) (z : Sizes) (l : Layout) → gathered rd k ≡ AllOf z → rd k ≡ reading-is.Accepted l → gathered rd (k + 1) ≡ AllOf (more z l)
+      (k : ℕ) (z : Sizes) (l : Layout) → gathered rd k ≡ AllOf z → rd k ≡ Ok l → gathered rd (k + 1) ≡ AllOf (more z l)
   gathered-more k z l e f = next k ∙ ap₂ (and_then k) e f
 
   -- the lowest file at fault is the one that is told
@@ -123,15 +122,15 @@ module _ (rd : ℕ → Reading) where
       ]
 
   pub gathered-fault :
-      (n k : ℕ) (z : Sizes) (why : Refusal) → k < n → gathered rd k ≡ AllOf z → rd k ≡ reading-is.Refused why →
+      (n k : ℕ) (z : Sizes) (why : Refusal) → k < n → gathered rd k ≡ AllOf z → rd k ≡ Err why →
       gathered rd n ≡ Faulty k why
   gathered-fault n k z why h e f = stays k why n (k + 1) (omega arith) (next k ∙ ap₂ (and_then k) e f)
 
   -- the file that is told is one of those that are gathered
   fault-step :
       (n : ℕ) (g : Gathered) (x : Reading) (k : ℕ) (why : Refusal) → and_then n g x ≡ Faulty k why → (g ≡ Faulty k why) ⊎ (k ≡ n)
-  fault-step n (AllOf z) (reading-is.Accepted l) k why e = not-faulty (Faulty k why) k why (more z l) refl (sym e)
-  fault-step n (AllOf z) (reading-is.Refused w) k why e = inr cc
+  fault-step n (AllOf z) (Ok l) k why e = not-faulty (Faulty k why) k why (more z l) refl (sym e)
+  fault-step n (AllOf z) (Err w) k why e = inr cc
   fault-step n (Faulty j w) x k why e = inl e
 
   pub fault-place : (n k : ℕ) (why : Refusal) → gathered rd n ≡ Faulty k why → k < n
@@ -143,7 +142,7 @@ module _ (rd : ℕ → Reading) where
       ]
 
   pub record Taken (n : ℕ) (z : Sizes) : Type 0 where
-    pub each : (k : ℕ) → k < n → rd k ≡ reading-is.Accepted (layout_in (rd k))
+    pub each : (k : ℕ) → k < n → rd k ≡ Ok (layout_in (rd k))
     pub cards : z.cards ≡ sum n (λ k. (layout_in (rd k)).cards)
     pub shops : z.shops ≡ sum n (λ k. (layout_in (rd k)).shops)
     pub rows : z.rows ≡ sum n (λ k. (layout_in (rd k)).rows)
@@ -152,12 +151,12 @@ module _ (rd : ℕ → Reading) where
   unfolding sum
   none-taken = record { each = λ k h. absurd (omega arith); cards = refl; shops = refl; rows = refl }
 
-  more-taken : (n : ℕ) (z : Sizes) (l : Layout) → Taken n z → rd n ≡ reading-is.Accepted l → Taken (suc n) (more z l)
+  more-taken : (n : ℕ) (z : Sizes) (l : Layout) → Taken n z → rd n ≡ Ok l → Taken (suc n) (more z l)
   unfolding sum
   more-taken n z l t e = record {
     each = λ k h.
         elim (ℕ_discrete k n) [
-          | yes q ↦ ap rd q ∙ e ∙ ap reading-is.Accepted (sym (ap layout_in (ap rd q ∙ e)))
+          | yes q ↦ ap rd q ∙ e ∙ ap Ok (sym (ap layout_in (ap rd q ∙ e)))
           | no q ↦ t.each k (omega arith)
         ];
     cards = omega (arith, t.cards, ap (λ (x : Reading). (layout_in x).cards) e);
@@ -175,8 +174,8 @@ module _ (rd : ℕ → Reading) where
       before smaller (AllOf y) p = here (rd n) refl
         where
           here : (x : Reading) → rd n ≡ x → Taken (suc n) z
-          here (reading-is.Refused why) q = not-faulty (gathered rd (suc n)) n why z (gathered-suc n ∙ ap₂ (and_then n) p q) e
-          here (reading-is.Accepted l) q =
+          here (Err why) q = not-faulty (gathered rd (suc n)) n why z (gathered-suc n ∙ ap₂ (and_then n) p q) e
+          here (Ok l) q =
               rw (one_size (gathered rd (suc n)) z (more y l) e (gathered-suc n ∙ ap₂ (and_then n) p q))
               (more-taken n y l (smaller y p) q)
 
@@ -210,10 +209,10 @@ module _ (z : Sizes) where
   pub large-rows : z.cards ≤ 256 → 1 + z.shops ≤ 256 → ltb 512 z.rows ≡ too_large z
   large-rows h k = rw (le-ltb _ _ h, le-ltb _ _ k)
 
-  pub sizes-large : too_large z ≡ true → Refused Large ≡ judged_by (AllOf z)
+  pub sizes-large : too_large z ≡ true → Err (Whole Large) ≡ judged_by (AllOf z)
   sizes-large e = rw e
 
-  pub sizes-ready : too_large z ≡ false → Ready z ≡ judged_by (AllOf z)
+  pub sizes-ready : too_large z ≡ false → Ok z ≡ judged_by (AllOf z)
   sizes-ready e = rw e
 
   pub small-enough : too_large z ≡ false → (z.cards ≤ 256) × (1 + z.shops ≤ 256) × (z.rows ≤ 512)
@@ -235,7 +234,7 @@ module _ (z : Sizes) where
 -- The judgement
 
 module _ (day : ℕ) (b ls : List ℕ) where
-  pub judged-files : lengths_fit (length b) ls ≡ false → Refused Files ≡ judged day b ls
+  pub judged-files : lengths_fit (length b) ls ≡ false → Err (Whole Files) ≡ judged day b ls
   unfolding judged
   judged-files e = rw e
 

@@ -2,14 +2,13 @@
 --   Members n s l day      n files s k with the layouts l k, accepted as new files in the week layout for the same day, that together pass no
 --                          bound of a file, one more shop group counted; the limits of a new file are the written ones
 --   AllRead day b ls       the files in a buffer are accepted, and so they are Members
-use Rattle.std.specs.Prelude.{◌≡◌, true, List, ℕ, ◌+◌, ◌≤◌, ◌<◌, length, get_or}
+use Rattle.std.specs.Prelude.{◌≡◌, true, List, ℕ, ◌+◌, ◌≤◌, ◌<◌, length, get_or, Ok}
 use Rattle.theory.specs.Bounds.{max_groups, max_rows}
 use Rattle.theory.specs.Sum.{sum}
 use Rattle.claimfile.specs.Day.{groups_of, written_of, limit_of}
 use Rattle.claimfile.specs.File.{first_terms}
 use Rattle.claimfile.specs.Sound.{Sound, Kinds}
 use Rattle.claimfile.specs.declared.Layout.{Layout}
-use Rattle.reader.specs.declared.Reading.TheVariants.{Accepted}
 use Rattle.members.specs.Members.{member_of, reading_of, layouts_of, lengths_fit}
 
 pub record Members (n : ℕ) (s : ℕ → List ℕ) (l : ℕ → Layout) (day : ℕ) : Type 0 where
@@ -24,5 +23,5 @@ pub record Members (n : ℕ) (s : ℕ → List ℕ) (l : ℕ → Layout) (day : 
 
 pub record AllRead (day : ℕ) (b ls : List ℕ) : Type 0 where
   pub fit : lengths_fit (length b) ls ≡ true
-  pub each : (k : ℕ) → k < length ls → reading_of day b ls k ≡ Accepted (layouts_of day b ls k)
+  pub each : (k : ℕ) → k < length ls → reading_of day b ls k ≡ Ok (layouts_of day b ls k)
   pub all : Members (length ls) (member_of b ls) (layouts_of day b ls) day

@@ -11,16 +11,16 @@
 --   sized cards shops rows the reading of a file with so many records
 --   sizes_examples          their table
 -- `examples-told` and `sizes-told` in proofs/Examples.antt are the proofs.
-use Rattle.std.specs.Prelude.{List, [], ◌∷◌, ◌++◌, ℕ}
-use Rattle.reader.specs.declared.Reading.{Reading}
-use Rattle.reader.specs.declared.Reading.TheVariants as reading-is
+use Rattle.std.specs.Prelude.{List, [], ◌∷◌, ◌++◌, ℕ, Ok, Err, Result}
 use Rattle.reader.specs.declared.Refusal.TheVariants.{Kind}
 use Rattle.claimwriter.specs.Written.{layout_for}
 use Rattle.refusal.specs.declared.Reason.TheVariants.{File}
 use Rattle.refusal.specs.Table.{number_of}
 use Rattle.refusal.specs.Examples.{week}
-use Rattle.members.specs.declared.Judged.{Judged}
-use Rattle.members.specs.declared.Judged.TheVariants.{Ready, Member, Refused}
+use Rattle.members.specs.declared.Fault.TheVariants.{Member, Whole}
+use Rattle.reader.specs.Reading.{Reading}
+use Rattle.members.specs.declared.Fault.{Fault}
+use Rattle.members.specs.declared.Sizes.{Sizes}
 
 abbrev pub one_claim : List ℕ
 one_claim = 1 ∷ 0 ∷ 255 ∷ 255 ∷ week 1 ++ 1 ∷ 0 ∷ 255 ∷ 255 ∷ week 1 ++ 1 ∷ 0 ∷ 0 ∷ 0 ∷ 0 ∷ 0 ∷ 1 ∷ []
@@ -42,10 +42,10 @@ faulty number file = record { number = number; file = file; cards = 0; shops = 0
 abbrev pub fine : ℕ → ℕ → ℕ → Told
 fine cards shops rows = record { number = 0; file = 0; cards = cards; shops = shops; rows = rows }
 
-abbrev pub told_of : Judged → Told
-told_of (Ready z) = fine z.cards z.shops z.rows
-told_of (Member k why) = faulty (number_of (File why)) k
-told_of (Refused why) = faulty (number_of why) 0
+abbrev pub told_of : Result Sizes Fault → Told
+told_of (Ok z) = fine z.cards z.shops z.rows
+told_of (Err (Member k why)) = faulty (number_of (File why)) k
+told_of (Err (Whole why)) = faulty (number_of why) 0
 
 pub record Example : Type 0 where
   pub files : List ℕ
@@ -85,7 +85,7 @@ abbrev pub sizes_example : List Reading → Told → SizesExample
 sizes_example readings told = record { readings = readings; told = told }
 
 abbrev pub sized : ℕ → ℕ → ℕ → Reading
-sized cards shops rows = reading-is.Accepted (layout_for cards shops rows)
+sized cards shops rows = Ok (layout_for cards shops rows)
 
 abbrev pub sizes_examples : List SizesExample
 sizes_examples =
@@ -98,4 +98,4 @@ sizes_examples =
     -- one file alone, for which the oven is a shop group too many
     sizes_example (sized 1 256 1 ∷ []) (faulty 17 0) ∷
     -- 6 of the third file, though the first two are too large together
-    sizes_example (sized 256 256 512 ∷ sized 256 256 512 ∷ reading-is.Refused Kind ∷ []) (faulty 6 2) ∷ []
+    sizes_example (sized 256 256 512 ∷ sized 256 256 512 ∷ Err Kind ∷ []) (faulty 6 2) ∷ []

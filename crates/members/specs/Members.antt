@@ -17,21 +17,19 @@
 --   judged_by g             the judgement by what is found of all files
 --   judged day b ls        the judgement of the files in a buffer
 --   ovened z day           the layout of the joined file of files of these sizes
-use Rattle.std.specs.Prelude.{Bool, true, false, List, ℕ, zero, suc, ◌+◌, ltb, eqb, length, get_or, take, drop}
+use Rattle.std.specs.Prelude.{Bool, true, false, List, ℕ, zero, suc, ◌+◌, ltb, eqb, length, get_or, take, drop, Ok, Err, Result}
 use Rattle.theory.specs.Bounds.{max_groups, max_rows}
 use Rattle.theory.specs.Sum.{pick, sum}
 use Rattle.claimfile.specs.File.{new_week}
 use Rattle.claimfile.specs.Day.{on_day}
 use Rattle.claimfile.specs.declared.Layout.{Layout}
-use Rattle.reader.specs.Reading.{reading}
+use Rattle.reader.specs.Reading.{reading, Reading}
 use Rattle.reader.specs.declared.Refusal.{Refusal}
-use Rattle.reader.specs.declared.Reading.{Reading}
-use Rattle.reader.specs.declared.Reading.TheVariants as reading-is
 use Rattle.claimwriter.specs.Written.{layout_for, layout_in}
 use Rattle.refusal.specs.declared.Reason.TheVariants.{Files, Large}
 use Rattle.members.specs.declared.Sizes.{Sizes}
-use Rattle.members.specs.declared.Judged.{Judged}
-use Rattle.members.specs.declared.Judged.TheVariants.{Ready, Member, Refused}
+use Rattle.members.specs.declared.Fault.TheVariants.{Member, Whole}
+use Rattle.members.specs.declared.Fault.{Fault}
 
 abbrev pub most_files : ℕ
 most_files = 8
@@ -68,8 +66,8 @@ pub data Gathered : Type 0 where
 
 -- "A member file at fault gives its own number, lowest file first, with that file's place from 0"
 abbrev pub and_then : ℕ → Gathered → Reading → Gathered
-and_then k (AllOf z) (reading-is.Accepted l) = AllOf (more z l)
-and_then k (AllOf z) (reading-is.Refused why) = Faulty k why
+and_then k (AllOf z) (Ok l) = AllOf (more z l)
+and_then k (AllOf z) (Err why) = Faulty k why
 and_then k (Faulty j why) x = Faulty j why
 
 unfoldable pub gathered : (ℕ → Reading) → ℕ → Gathered
@@ -81,14 +79,14 @@ abbrev pub too_large : Sizes → Bool
 too_large z = pick (ltb max_groups z.cards) true (pick (ltb max_groups (1 + z.shops)) true (ltb max_rows z.rows))
 
 -- 17 is "judged once every file has been read"
-abbrev pub judged_by : Gathered → Judged
-judged_by (AllOf z) = pick (too_large z) (Refused Large) (Ready z)
-judged_by (Faulty k why) = Member k why
+abbrev pub judged_by : Gathered → Result Sizes Fault
+judged_by (AllOf z) = pick (too_large z) (Err (Whole Large)) (Ok z)
+judged_by (Faulty k why) = Err (Member k why)
 
 -- 16 is "judged first"
-unfoldable pub judged : ℕ → List ℕ → List ℕ → Judged
+unfoldable pub judged : ℕ → List ℕ → List ℕ → Result Sizes Fault
 judged day b ls =
-    pick (lengths_fit (length b) ls) (judged_by (gathered (reading_of day b ls) (length ls))) (Refused Files)
+    pick (lengths_fit (length b) ls) (judged_by (gathered (reading_of day b ls) (length ls))) (Err (Whole Files))
 
 abbrev pub ovened : Sizes → ℕ → Layout
 ovened z day = on_day (layout_for z.cards (1 + z.shops) z.rows) day

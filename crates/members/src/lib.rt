@@ -9,10 +9,11 @@ ghost use Rattle.std.specs.Prelude.{◌≡◌, true, ◌+◌, ◌<◌, ◌≤◌
 ghost use Rattle.theory.specs.Sum.{sum};
 ghost use Rattle.claimfile.specs.File.{new_week};
 ghost use Rattle.reader.specs.Reading.{reading};
+ghost use Rattle.members.specs.declared.Fault.TheVariants.{Member, Whole};
 ghost use Rattle.members.specs.Members.{most_files, length_of, part_at, reading_of, lengths_fit, more, AllOf, gathered, too_large, judged_by, judged};
 
 use claimfile::{Form, Layout};
-use reader::{Reading, Refusal, read};
+use reader::{Refusal, read};
 use refusal::Reason;
 use theory::{MAX_GROUPS, MAX_ROWS};
 
@@ -27,19 +28,19 @@ pub struct Sizes {
     pub rows: usize,
 }
 
-// What is found of the files before any buffer is looked at: all are accepted and not too large together; or the lowest file at fault,
-// with the reader's own refusal; or why they are turned away together.
-#[derive(Clone, Copy)]
-pub enum Judged {
-    Ready(Sizes),
+// Why files are turned away: the lowest file at fault, with the reader's own refusal; or a reason for all of them together.
+#[derive(Clone, Copy, Debug, PartialEq, Eq)]
+pub enum Fault {
     Member { file: usize, refusal: Refusal },
-    Refused(Reason),
+    Whole(Reason),
 }
 
-fn wide(x: u32) -> usize
-    ensures { (result ≡ x) × (result < 4294967296) }
-{
-    x as usize
+impl From<Reason> for Fault {
+    ghost from_gives = { λ why e. e ≡ Whole why };
+
+    fn from(why: Reason) -> Fault {
+        Fault::Whole(why)
+    }
 }
 
 // The length of file `k`.
@@ -47,7 +48,8 @@ pub fn length_at(lengths: &[u32], k: usize) -> usize
     requires { (k < length lengths.now) × (length lengths.now ≤ most_files) }
     ensures { (result ≡ length_of lengths.now k) × (result < 4294967296) }
 {
-    wide(lengths[k])
+    // stays: the new form is no plainer: as in Rust, the library has no `From` from u32 to usize, and no bit is lost here.
+    lengths[k] as usize
 }
 
 // The lengths added up.
@@ -55,12 +57,9 @@ fn sum_of(lengths: &[u32]) -> usize
     requires { length lengths.now ≤ most_files }
     ensures { result ≡ sum (length lengths.now) (length_of lengths.now) }
 {
-    let n = lengths.len();
     let mut total = 0;
-    let mut k = 0;
-    while k < n {
+    for k in 0..lengths.len() {
         total += length_at(lengths, k);
-        k += 1;
     }
     total
 }
@@ -80,7 +79,7 @@ fn lengths_fit(total: usize, lengths: &[u32]) -> bool
 }
 
 // Reads the file of `len` bytes that starts at `at`, for a day.
-fn read_part(files: &[u8], at: usize, len: usize, day: usize) -> Reading
+fn read_part(files: &[u8], at: usize, len: usize, day: usize) -> Result<Layout, Refusal>
     requires { at + len ≤ length files.now }
     ensures { result ≡ reading (new_week day) (part_at files.now at len) }
 {
@@ -120,18 +119,18 @@ fn too_large(sizes: Sizes) -> bool
 }
 
 // Judges the sizes of files that are all accepted.
-fn judge_sizes(sizes: Sizes) -> Judged
+fn judge_sizes(sizes: Sizes) -> Result<Sizes, Fault>
     requires { sizes.shops < 65536 }
     ensures { result ≡ judged_by (AllOf sizes) }
 {
     if too_large(sizes) {
-        return Judged::Refused(Reason::Large);
+        return Err(Fault::Whole(Reason::Large));
     }
-    Judged::Ready(sizes)
+    Ok(sizes)
 }
 
 // Reads the files, lowest first, and then judges how large they are together.
-fn gather(files: &[u8], lengths: &[u32], day: usize) -> Judged
+fn gather(files: &[u8], lengths: &[u32], day: usize) -> Result<Sizes, Fault>
     requires { lengths_fit (length files.now) lengths.now ≡ true }
     ensures { result ≡ judged_by (gathered (reading_of day files.now lengths.now) (length lengths.now)) }
 {
@@ -142,25 +141,24 @@ fn gather(files: &[u8], lengths: &[u32], day: usize) -> Judged
         rows: 0,
     };
     let mut at = 0;
-    let mut k = 0;
-    while k < n {
+    for k in 0..n {
         let len = length_at(lengths, k);
-        match read_part(files, at, len, day) {
-            Reading::Refused(refusal) => return Judged::Member { file: k, refusal },
-            Reading::Accepted(layout) => sizes = add(sizes, layout),
-        }
+        let layout = match read_part(files, at, len, day) {
+            Ok(layout) => layout,
+            Err(refusal) => return Err(Fault::Member { file: k, refusal }),
+        };
+        sizes = add(sizes, layout);
         at += len;
-        k += 1;
     }
     judge_sizes(sizes)
 }
 
 // Judges the files: their lengths, then each file by itself, and then how large they are together.
-pub fn judge_files(files: &[u8], lengths: &[u32], day: usize) -> Judged
+pub fn judge_files(files: &[u8], lengths: &[u32], day: usize) -> Result<Sizes, Fault>
     ensures { result ≡ judged day files.now lengths.now }
 {
     if !lengths_fit(files.len(), lengths) {
-        return Judged::Refused(Reason::Files);
+        return Err(Fault::Whole(Reason::Files));
     }
     gather(files, lengths, day)
 }

@@ -1,4 +1,4 @@
-// What each call answers, in the numbers that C takes: one function for each enum that a call answers. It gives the struct of crate
+// What each call answers, in the numbers that C takes: one function for each type that a call answers. It gives the struct of crate
 // `answers` with document 01's number and values: the refusal's number and zeros, or 0 and what was found.
 #![tactic(auto)]
 
@@ -16,25 +16,24 @@ use answers::{
     FitsAndRankAnswer, SettleAnswer, SettleJoinedAnswer, SettleKindsAnswer, SparePlacesAnswer,
     WriteAnswer,
 };
-use closing::Settled;
-use joined::Joint;
-use kinds::SettledKinds;
-use limits::Ranked;
-use refusal::{Reason, Written, number};
-use spare::Spare;
+use closing::Totals;
+use kinds::KindTotals;
+use members::Fault;
+use refusal::{Reason, number};
+use sides::Found;
 
 // The numbers for an answer of fits and rank.
-pub fn ranked_numbers(answer: Ranked) -> FitsAndRankAnswer
+pub fn ranked_numbers(answer: Result<Found, Reason>) -> FitsAndRankAnswer
     requires { (ranked_numbers answer).rank ≤ max_rows }
     ensures { result ≡ ranked_numbers answer }
 {
     match answer {
-        Ranked::Told { fits, rank } => FitsAndRankAnswer {
+        Ok(found) => FitsAndRankAnswer {
             refusal: 0,
-            fits: fits as u32,
-            rank: rank as u32,
+            fits: found.fits as u32,
+            rank: found.rank as u32,
         },
-        Ranked::Refused(why) => FitsAndRankAnswer {
+        Err(why) => FitsAndRankAnswer {
             refusal: number(why),
             fits: 0,
             rank: 0,
@@ -43,16 +42,16 @@ pub fn ranked_numbers(answer: Ranked) -> FitsAndRankAnswer
 }
 
 // The numbers for an answer of spare places.
-pub fn spare_numbers(answer: Spare) -> SparePlacesAnswer
+pub fn spare_numbers(answer: Result<usize, Reason>) -> SparePlacesAnswer
     requires { (spare_numbers answer).places ≤ max_limit }
     ensures { result ≡ spare_numbers answer }
 {
     match answer {
-        Spare::Places(places) => SparePlacesAnswer {
+        Ok(places) => SparePlacesAnswer {
             refusal: 0,
             places: places as u32,
         },
-        Spare::Refused(why) => SparePlacesAnswer {
+        Err(why) => SparePlacesAnswer {
             refusal: number(why),
             places: 0,
         },
@@ -60,17 +59,17 @@ pub fn spare_numbers(answer: Spare) -> SparePlacesAnswer
 }
 
 // The numbers for an answer of settle.
-pub fn settled_numbers(answer: Settled) -> SettleAnswer
+pub fn settled_numbers(answer: Result<Totals, Reason>) -> SettleAnswer
     ensures { result ≡ settled_numbers answer }
 {
     match answer {
-        Settled::Closed(totals) => SettleAnswer {
+        Ok(totals) => SettleAnswer {
             refusal: 0,
             earned: totals.earned as u64,
             kept: totals.kept as u64,
             total: totals.total as u64,
         },
-        Settled::Refused(why) => SettleAnswer {
+        Err(why) => SettleAnswer {
             refusal: number(why),
             earned: 0,
             kept: 0,
@@ -80,11 +79,11 @@ pub fn settled_numbers(answer: Settled) -> SettleAnswer
 }
 
 // The numbers for an answer of settle under the second terms.
-pub fn settled_kinds_numbers(answer: SettledKinds) -> SettleKindsAnswer
+pub fn settled_kinds_numbers(answer: Result<KindTotals, Reason>) -> SettleKindsAnswer
     ensures { result ≡ settled_kinds_numbers answer }
 {
     match answer {
-        SettledKinds::Closed(totals) => SettleKindsAnswer {
+        Ok(totals) => SettleKindsAnswer {
             refusal: 0,
             kind0: totals.kind0 as u64,
             kind1: totals.kind1 as u64,
@@ -93,7 +92,7 @@ pub fn settled_kinds_numbers(answer: SettledKinds) -> SettleKindsAnswer
             kept: totals.kept as u64,
             total: totals.total as u64,
         },
-        SettledKinds::Refused(why) => SettleKindsAnswer {
+        Err(why) => SettleKindsAnswer {
             refusal: number(why),
             kind0: 0,
             kind1: 0,
@@ -106,26 +105,26 @@ pub fn settled_kinds_numbers(answer: SettledKinds) -> SettleKindsAnswer
 }
 
 // The numbers for an answer of settling several counters together.
-pub fn joined_numbers(answer: Joint) -> SettleJoinedAnswer
+pub fn joined_numbers(answer: Result<Totals, Fault>) -> SettleJoinedAnswer
     requires { (joined_numbers answer).file < most_files }
     ensures { result ≡ joined_numbers answer }
 {
     match answer {
-        Joint::Closed(day) => SettleJoinedAnswer {
+        Ok(day) => SettleJoinedAnswer {
             refusal: 0,
             file: 0,
             earned: day.earned as u64,
             kept: day.kept as u64,
             total: day.total as u64,
         },
-        Joint::Member { file, refusal } => SettleJoinedAnswer {
+        Err(Fault::Member { file, refusal }) => SettleJoinedAnswer {
             refusal: number(Reason::File(refusal)),
             file: file as u32,
             earned: 0,
             kept: 0,
             total: 0,
         },
-        Joint::Refused(why) => SettleJoinedAnswer {
+        Err(Fault::Whole(why)) => SettleJoinedAnswer {
             refusal: number(why),
             file: 0,
             earned: 0,
@@ -136,15 +135,15 @@ pub fn joined_numbers(answer: Joint) -> SettleJoinedAnswer
 }
 
 // The numbers for an answer of a call that writes into a lent buffer.
-pub fn written_numbers(answer: Written) -> WriteAnswer
+pub fn written_numbers(answer: Result<usize, Reason>) -> WriteAnswer
     ensures { result ≡ written_numbers answer }
 {
     match answer {
-        Written::Bytes(length) => WriteAnswer {
+        Ok(length) => WriteAnswer {
             refusal: 0,
             length: length as u64,
         },
-        Written::Refused(why) => WriteAnswer {
+        Err(why) => WriteAnswer {
             refusal: number(why),
             length: 0,
         },

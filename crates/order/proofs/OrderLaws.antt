@@ -22,7 +22,6 @@ use native.Mathlib.Omega.{arith}
 use lib.Dec.{eqb}
 use borrow.Author.Tests.{eqb-true, eqb-false, eq-eqb, ne_eqb, not-true, not-false}
 use Rattle.theory.specs.Bounds.{cell_bound}
-use Rattle.theory.specs.Sum.{same}
 use Rattle.theory.specs.Level.{Level}
 use Rattle.theory.specs.Residual.{Arc, Cut, freed}
 use Rattle.theory.specs.Residual.Arc.{puts}

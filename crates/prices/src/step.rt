@@ -3,7 +3,6 @@
 ghost use Rattle.std.specs.Prelude.{◌+◌, ◌*◌, ◌≤◌, ◌<◌, length};
 ghost use Rattle.theory.specs.Level.{Range};
 ghost use Rattle.theory.specs.Step.{arcs};
-ghost use Rattle.scratch.specs.Memory.{memory};
 ghost use Rattle.scratch.specs.Map.{Room, pred_of, price_of};
 ghost use Rattle.residual.specs.State.{highest, Ready};
 ghost use Rattle.scratch.specs.View.{net_of};
@@ -12,36 +11,31 @@ ghost use Rattle.prices.specs.Step.{BoundOf, GroupsOf, AlongOf, Moving, Raised, 
 use entries::{card, kept, parent, pred, price, set_price, shop};
 use residual::arcs::arc;
 use scratch::Shape;
+use scratch::cells::Width;
 use scratch::pick::pick;
 
 // The lesser of best and the slack of arc e, where e leaves the reached nodes. Most arcs do not, so the labels of its two ends are
 // looked at before it is decoded.
-fn lower(
+fn lower<W: Width>(
     sh: Shape,
     e: usize,
     from: usize,
     to: usize,
     best: usize,
     choice: &[u8],
-    wide: bool,
-    sheet: &[u32],
-    sheet64: &[u64],
-    scratch: &[u32],
-    scratch64: &[u64],
+    sheet: &[W],
+    scratch: &[W],
 ) -> usize
-    requires ready { Ready sh choice.now (memory wide sheet.now sheet64.now) (memory wide scratch.now scratch64.now) }
+    requires ready { Ready sh choice.now (W.memory sheet.now) (W.memory scratch.now) }
     requires e_bound { e < 2 * sh.groups + sh.rows }
-    requires along_of { AlongOf sh choice.now (memory wide sheet.now sheet64.now) (memory wide scratch.now scratch64.now) e from to }
-    ensures { let sheet₀ = memory wide sheet.now sheet64.now in
-        let scratch₀ = memory wide scratch.now scratch64.now in
-        BoundOf sh choice.now sheet₀ scratch₀ e (e + 1) best result }
+    requires along_of { AlongOf sh choice.now (W.memory sheet.now) (W.memory scratch.now) e from to }
+    ensures { BoundOf sh choice.now (W.memory sheet.now) (W.memory scratch.now) e (e + 1) best result }
 {
-    let stays = (pred(sh, from, wide, scratch, scratch64) == 0)
-        | (pred(sh, to, wide, scratch, scratch64) > 0);
+    let stays = (pred(sh, from, scratch) == 0) | (pred(sh, to, scratch) > 0);
     if stays {
         return best;
     }
-    let a = arc(sh, e, choice, wide, sheet, sheet64, scratch, scratch64);
+    let a = arc(sh, e, choice, sheet, scratch);
     let usable = a.usable;
     let slack = a.slack;
     if slack >= best {
@@ -54,166 +48,88 @@ fn lower(
 }
 
 // The same for both arcs of group v, down to it and up from it.
-fn lower_group(
+fn lower_group<W: Width>(
     sh: Shape,
     v: usize,
     best: usize,
     choice: &[u8],
-    wide: bool,
-    sheet: &[u32],
-    sheet64: &[u64],
-    scratch: &[u32],
-    scratch64: &[u64],
+    sheet: &[W],
+    scratch: &[W],
 ) -> usize
-    requires ready { Ready sh choice.now (memory wide sheet.now sheet64.now) (memory wide scratch.now scratch64.now) }
+    requires ready { Ready sh choice.now (W.memory sheet.now) (W.memory scratch.now) }
     requires v_lt_groups { v < sh.groups }
-    ensures { let sheet₀ = memory wide sheet.now sheet64.now in
-        let scratch₀ = memory wide scratch.now scratch64.now in
-        GroupsOf sh choice.now sheet₀ scratch₀ v (v + 1) best result }
+    ensures { GroupsOf sh choice.now (W.memory sheet.now) (W.memory scratch.now) v (v + 1) best result }
 {
     let g = sh.groups;
     let n = sh.rows;
-    let p = parent(sh, v, wide, scratch, scratch64);
-    let below = lower(
-        sh, v, p, v, best, choice, wide, sheet, sheet64, scratch, scratch64,
-    );
-    lower(
-        sh,
-        g + n + v,
-        v,
-        p,
-        below,
-        choice,
-        wide,
-        sheet,
-        sheet64,
-        scratch,
-        scratch64,
-    )
+    let p = parent(sh, v, scratch);
+    let below = lower(sh, v, p, v, best, choice, sheet, scratch);
+    lower(sh, g + n + v, v, p, below, choice, sheet, scratch)
 }
 
 // The same for row c.
-fn lower_row(
+fn lower_row<W: Width>(
     sh: Shape,
     c: usize,
     best: usize,
     choice: &[u8],
-    wide: bool,
-    sheet: &[u32],
-    sheet64: &[u64],
-    scratch: &[u32],
-    scratch64: &[u64],
+    sheet: &[W],
+    scratch: &[W],
 ) -> usize
-    requires ready { Ready sh choice.now (memory wide sheet.now sheet64.now) (memory wide scratch.now scratch64.now) }
+    requires ready { Ready sh choice.now (W.memory sheet.now) (W.memory scratch.now) }
     requires c_lt_rows { c < sh.rows }
-    ensures { let sheet₀ = memory wide sheet.now sheet64.now in
-        let scratch₀ = memory wide scratch.now scratch64.now in
-        BoundOf sh choice.now sheet₀ scratch₀ (sh.groups + c) (sh.groups + c + 1) best result }
+    ensures { BoundOf sh choice.now (W.memory sheet.now) (W.memory scratch.now) (sh.groups + c) (sh.groups + c + 1) best result }
 {
     let g = sh.groups;
-    let a = card(sh, c, wide, scratch, scratch64);
-    let b = shop(sh, c, wide, scratch, scratch64);
+    let a = card(sh, c, scratch);
+    let b = shop(sh, c, scratch);
     let takes = kept(c, choice) == 1;
     let from = pick(takes, b, a);
     let to = pick(takes, a, b);
-    lower(
-        sh,
-        g + c,
-        from,
-        to,
-        best,
-        choice,
-        wide,
-        sheet,
-        sheet64,
-        scratch,
-        scratch64,
-    )
+    lower(sh, g + c, from, to, best, choice, sheet, scratch)
 }
 
 // The least slack of the groups' arcs that leave the reached nodes, at most the toll.
-fn least_groups(
-    sh: Shape,
-    choice: &[u8],
-    wide: bool,
-    sheet: &[u32],
-    sheet64: &[u64],
-    scratch: &[u32],
-    scratch64: &[u64],
-) -> usize
-    requires { Ready sh choice.now (memory wide sheet.now sheet64.now) (memory wide scratch.now scratch64.now) }
-    ensures { let sheet₀ = memory wide sheet.now sheet64.now in
-        let scratch₀ = memory wide scratch.now scratch64.now in
-        GroupsOf sh choice.now sheet₀ scratch₀ 0 sh.groups sh.toll result }
+fn least_groups<W: Width>(sh: Shape, choice: &[u8], sheet: &[W], scratch: &[W]) -> usize
+    requires { Ready sh choice.now (W.memory sheet.now) (W.memory scratch.now) }
+    ensures { GroupsOf sh choice.now (W.memory sheet.now) (W.memory scratch.now) 0 sh.groups sh.toll result }
 {
-    let g = sh.groups;
     let mut best = sh.toll;
-    let mut v = 0;
-    while v < g {
-        best = lower_group(
-            sh, v, best, choice, wide, sheet, sheet64, scratch, scratch64,
-        );
-        v += 1;
+    for v in 0..sh.groups {
+        best = lower_group(sh, v, best, choice, sheet, scratch);
     }
     best
 }
 
 // The least slack of the rows that leave the reached nodes, at most `most`.
-fn least_rows(
-    sh: Shape,
-    most: usize,
-    choice: &[u8],
-    wide: bool,
-    sheet: &[u32],
-    sheet64: &[u64],
-    scratch: &[u32],
-    scratch64: &[u64],
-) -> usize
-    requires { Ready sh choice.now (memory wide sheet.now sheet64.now) (memory wide scratch.now scratch64.now) }
-    ensures { let sheet₀ = memory wide sheet.now sheet64.now in
-        let scratch₀ = memory wide scratch.now scratch64.now in
-        BoundOf sh choice.now sheet₀ scratch₀ sh.groups (sh.groups + sh.rows) most result }
+fn least_rows<W: Width>(sh: Shape, most: usize, choice: &[u8], sheet: &[W], scratch: &[W]) -> usize
+    requires { Ready sh choice.now (W.memory sheet.now) (W.memory scratch.now) }
+    ensures { BoundOf sh choice.now (W.memory sheet.now) (W.memory scratch.now) sh.groups (sh.groups + sh.rows) most result }
 {
-    let n = sh.rows;
     let mut best = most;
-    let mut c = 0;
-    while c < n {
-        best = lower_row(
-            sh, c, best, choice, wide, sheet, sheet64, scratch, scratch64,
-        );
-        c += 1;
+    for c in 0..sh.rows {
+        best = lower_row(sh, c, best, choice, sheet, scratch);
     }
     best
 }
 
 // The least slack of the arcs that leave the reached nodes, at most the toll.
-fn least(
-    sh: Shape,
-    choice: &[u8],
-    wide: bool,
-    sheet: &[u32],
-    sheet64: &[u64],
-    scratch: &[u32],
-    scratch64: &[u64],
-) -> usize
-    requires { Ready sh choice.now (memory wide sheet.now sheet64.now) (memory wide scratch.now scratch64.now) }
-    ensures { let sheet₀ = memory wide sheet.now sheet64.now in
-        let scratch₀ = memory wide scratch.now scratch64.now in
-        BoundOf sh choice.now sheet₀ scratch₀ 0 (arcs (net_of sh scratch₀)) sh.toll result }
+fn least<W: Width>(sh: Shape, choice: &[u8], sheet: &[W], scratch: &[W]) -> usize
+    requires { Ready sh choice.now (W.memory sheet.now) (W.memory scratch.now) }
+    ensures { BoundOf sh choice.now (W.memory sheet.now) (W.memory scratch.now) 0 (arcs (net_of sh (W.memory scratch.now))) sh.toll result }
 {
-    let most = least_groups(sh, choice, wide, sheet, sheet64, scratch, scratch64);
-    least_rows(sh, most, choice, wide, sheet, sheet64, scratch, scratch64)
+    let most = least_groups(sh, choice, sheet, scratch);
+    least_rows(sh, most, choice, sheet, scratch)
 }
 
 // Whether the price of group v rises: a card group not reached, or a shop group reached.
-fn moves(sh: Shape, v: usize, wide: bool, scratch: &[u32], scratch64: &[u64]) -> bool
-    requires room { Room sh (memory wide scratch.now scratch64.now) }
+fn moves<W: Width>(sh: Shape, v: usize, scratch: &[W]) -> bool
+    requires room { Room sh (W.memory scratch.now) }
     requires v_lt_groups { v < sh.groups }
-    ensures { let scratch₀ = memory wide scratch.now scratch64.now in
-        Moving (net_of sh scratch₀) (pred_of sh scratch₀) v result }
+    ensures { Moving (net_of sh (W.memory scratch.now)) (pred_of sh (W.memory scratch.now)) v result }
 {
     let cards = sh.cards;
-    let by = pred(sh, v, wide, scratch, scratch64);
+    let by = pred(sh, v, scratch);
     if v < cards {
         return by == 0;
     }
@@ -221,73 +137,38 @@ fn moves(sh: Shape, v: usize, wide: bool, scratch: &[u32], scratch64: &[u64]) ->
 }
 
 // Raises by d the prices that rise. The others are stored as they were: no branch depends on the labels, which no processor foresees.
-fn raise(
-    sh: Shape,
-    d: usize,
-    wide: bool,
-    sheet: &mut [u32],
-    sheet64: &mut [u64],
-    scratch: &[u32],
-    scratch64: &[u64],
-)
-    requires room { Room sh (memory wide scratch.now scratch64.now) }
-    requires groups_in_bounds { sh.groups ≤ length (memory wide sheet.old sheet64.old) }
-    requires range { Range highest (price_of sh (memory wide sheet.old sheet64.old)) d }
-    ensures { let sheet₀ = memory wide sheet.old sheet64.old in
-        let scratch₀ = memory wide scratch.now scratch64.now in
-        let sheet' = memory wide sheet.new sheet64.new in
-        Raised sh sheet₀ scratch₀ sheet' d sh.groups }
+fn raise<W: Width>(sh: Shape, d: usize, sheet: &mut [W], scratch: &[W])
+    requires room { Room sh (W.memory scratch.now) }
+    requires groups_in_bounds { sh.groups ≤ length (W.memory sheet.old) }
+    requires range { Range highest (price_of sh (W.memory sheet.old)) d }
+    ensures { Raised sh (W.memory sheet.old) (W.memory scratch.now) (W.memory sheet.new) d sh.groups }
 {
-    let g = sh.groups;
-    let mut v = 0;
-    while v < g {
-        let p = price(sh, v, wide, sheet, sheet64);
-        let rises = moves(sh, v, wide, scratch, scratch64);
-        set_price(sh, v, p + pick(rises, d, 0), wide, sheet, sheet64);
-        v += 1;
+    for v in 0..sh.groups {
+        let p = price(sh, v, sheet);
+        let rises = moves(sh, v, scratch);
+        set_price(sh, v, p + pick(rises, d, 0), sheet);
     }
 }
 
 // By how much the toll falls: by the least slack of the arcs that leave the reached nodes. Each of them has some slack, so a toll of 1
 // falls to 0, and no arc need be looked at.
-fn fall(
-    sh: Shape,
-    choice: &[u8],
-    wide: bool,
-    sheet: &[u32],
-    sheet64: &[u64],
-    scratch: &[u32],
-    scratch64: &[u64],
-) -> usize
-    requires { Cutting sh choice.now (memory wide sheet.now sheet64.now) (memory wide scratch.now scratch64.now) }
-    ensures { let sheet₀ = memory wide sheet.now sheet64.now in
-        let scratch₀ = memory wide scratch.now scratch64.now in
-        BoundOf sh choice.now sheet₀ scratch₀ 0 (arcs (net_of sh scratch₀)) sh.toll result }
+fn fall<W: Width>(sh: Shape, choice: &[u8], sheet: &[W], scratch: &[W]) -> usize
+    requires { Cutting sh choice.now (W.memory sheet.now) (W.memory scratch.now) }
+    ensures { BoundOf sh choice.now (W.memory sheet.now) (W.memory scratch.now) 0 (arcs (net_of sh (W.memory scratch.now))) sh.toll result }
 {
     let toll = sh.toll;
     if toll == 1 {
         return 1;
     }
-    least(sh, choice, wide, sheet, sheet64, scratch, scratch64)
+    least(sh, choice, sheet, scratch)
 }
 
 // The step. Answers by how much the toll falls.
-pub fn reprice(
-    sh: Shape,
-    choice: &[u8],
-    wide: bool,
-    sheet: &mut [u32],
-    sheet64: &mut [u64],
-    scratch: &[u32],
-    scratch64: &[u64],
-) -> usize
-    requires { Cutting sh choice.now (memory wide sheet.old sheet64.old) (memory wide scratch.now scratch64.now) }
-    ensures { let sheet₀ = memory wide sheet.old sheet64.old in
-        let scratch₀ = memory wide scratch.now scratch64.now in
-        let sheet' = memory wide sheet.new sheet64.new in
-        Stepped sh choice.now sheet₀ scratch₀ sheet' result }
+pub fn reprice<W: Width>(sh: Shape, choice: &[u8], sheet: &mut [W], scratch: &[W]) -> usize
+    requires { Cutting sh choice.now (W.memory sheet.old) (W.memory scratch.now) }
+    ensures { Stepped sh choice.now (W.memory sheet.old) (W.memory scratch.now) (W.memory sheet.new) result }
 {
-    let d = fall(sh, choice, wide, sheet, sheet64, scratch, scratch64);
-    raise(sh, d, wide, sheet, sheet64, scratch, scratch64);
+    let d = fall(sh, choice, sheet, scratch);
+    raise(sh, d, sheet, scratch);
     d
 }

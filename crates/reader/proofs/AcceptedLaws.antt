@@ -27,7 +27,7 @@ use borrow.Author.Tests.{lt-leb, le-leb}
 use Rattle.theory.specs.Bounds.{max_groups, max_rows}
 use Rattle.claimfile.specs.File.{first_terms, as_stored, for_day, top, columns, column_of, group_width, claim_width}
 use Rattle.claimfile.specs.File.{word, limit_at, record_at, claim_at}
-use Rattle.reader.specs.Reading.{none_above, group_fault, claim_fault, records_from}
+use Rattle.reader.specs.Reading.{read_section, none_above, group_fault, claim_fault, records_from, Checked, Reading}
 use Rattle.reader.specs.Reading.{groups_from, rows_from, count_fault, section_of, section_by, section_at, claims_at, reading_in, reading}
 use Rattle.reader.specs.Sections.{behind, section_on}
 use Rattle.claimfile.specs.Day.{start_of, count_of, on_day}
@@ -35,12 +35,7 @@ use Rattle.claimfile.specs.Sound.{SmallerOrTop, Sound, Kinds, NoneAbove}
 use Rattle.claimfile.specs.declared.Form.{Form}
 use Rattle.reader.specs.declared.Refusal.{Refusal}
 use Rattle.reader.specs.declared.Refusal.TheVariants.{GroupCount, ClaimCount, NoSuchGroup, Kind}
-use Rattle.reader.specs.declared.Checked.{Checked}
-use Rattle.reader.specs.declared.Checked.TheVariants.{Fine, Fault}
 use Rattle.reader.specs.declared.Section.{Section}
-use Rattle.reader.specs.declared.Section.TheVariants.{Read, Faulty}
-use Rattle.reader.specs.declared.Reading.{Reading}
-use Rattle.reader.specs.declared.Reading.TheVariants.{Accepted, Refused}
 use Rattle.claimfile.specs.declared.Layout.{Layout}
 use Rattle.claimfile.specs.declared.Claim.{Claim}
 use Rattle.theory.proofs.TestLaws.{either}
@@ -49,14 +44,15 @@ use Rattle.reader.proofs.FileLaws.{never, none_above_lem, group-bad, group-top, 
 use Rattle.reader.proofs.FileLaws.{record_cut, record_fault, next-record, records-pass}
 use Rattle.reader.proofs.FileLaws.{count-fine, section-fault, section-fits}
 use Rattle.reader.proofs.FileLaws.{cards-fault, shops-fault, claims-fault, trailing, accepted}
+use Rattle.std.specs.Prelude.{Ok, Err, Result}
 
-pub one-layout : (x : Reading) (k l : Layout) → x ≡ Accepted k → x ≡ Accepted l → k ≡ l
+pub one-layout : (x : Reading) (k l : Layout) → x ≡ Ok k → x ≡ Ok l → k ≡ l
 one-layout x k l p q = cc
 
-pub one-refusal : (x : Reading) (v w : Refusal) → x ≡ Refused v → x ≡ Refused w → v ≡ w
+pub one-refusal : (x : Reading) (v w : Refusal) → x ≡ Err v → x ≡ Err w → v ≡ w
 one-refusal x v w p q = cc
 
-pub not-both : {A : Type 0} (x : Reading) (l : Layout) (why : Refusal) → x ≡ Accepted l → x ≡ Refused why → A
+pub not-both : {A : Type 0} (x : Reading) (l : Layout) (why : Refusal) → x ≡ Ok l → x ≡ Err why → A
 not-both x l why p q =
     let z : ◌≡◌ {A = ℕ} 0 1 = cc in
     absurd (omega arith)
@@ -67,13 +63,13 @@ not-both x l why p q =
 -- record k lies within the bytes, and its fields have no fault
 pub record FineRecord (size start width : ℕ) (fault : ℕ → Checked) (k : ℕ) : Type 0 where
   pub whole : start + width * k + width ≤ size
-  pub fine : fault k ≡ Fine
+  pub fine : fault k ≡ Ok tt
 
 module _ (size start width : ℕ) (fault : ℕ → Checked) (count : ℕ) where
   abbrev from : ℕ → Checked
   from k = records_from size start width fault k (count - k)
 
-  record_fine : (k : ℕ) → k < count → from k ≡ Fine → FineRecord size start width fault k × (from (k + 1) ≡ Fine)
+  record_fine : (k : ℕ) → k < count → from k ≡ Ok tt → FineRecord size start width fault k × (from (k + 1) ≡ Ok tt)
   record_fine k l e =
       elim (dec_lt size (start + width * k + width)) [
         | yes short ↦ never _ _ e (record_cut size start width fault count k l short)
@@ -82,16 +78,16 @@ module _ (size start width : ℕ) (fault : ℕ → Checked) (count : ℕ) where
     where
       judged :
           (x : Checked) → fault k ≡ x → start + width * k + width ≤ size →
-          FineRecord size start width fault k × (from (k + 1) ≡ Fine)
-      judged Fine p whole =
+          FineRecord size start width fault k × (from (k + 1) ≡ Ok tt)
+      judged (Ok _) p whole =
           (record { whole = whole; fine = p }, sym (next-record size start width fault count k l whole p) ∙ e)
-      judged (Fault why) p whole = never _ _ e (record_fault size start width fault count k l whole why p)
+      judged (Err why) p whole = never _ _ e (record_fault size start width fault count k l whole why p)
 
   records-fine :
-      records_from size start width fault 0 count ≡ Fine → (k : ℕ) → k < count → FineRecord size start width fault k
+      records_from size start width fault 0 count ≡ Ok tt → (k : ℕ) → k < count → FineRecord size start width fault k
   records-fine begin k l = (record_fine k l (fine k (omega arith))).0
     where
-      fine : (k : ℕ) → k ≤ count → from k ≡ Fine
+      fine : (k : ℕ) → k ≤ count → from k ≡ Ok tt
       fine zero h = simp sub-zero begin
       fine (suc k) h = rw (← add-one) (record_fine k (omega arith) (fine k (omega arith))).1
 
@@ -113,7 +109,7 @@ module _ (f : Form) (s : List ℕ) (start own : ℕ) where
   abbrev above : ℕ
   above = word s (record_at f.week start own)
 
-  group-fine : group_fault f s start own ≡ Fine → FineGroup f s start own
+  group-fine : group_fault f s start own ≡ Ok tt → FineGroup f s start own
   group-fine e = record { parent = parent; limits = limits }
     where
       parent : SmallerOrTop own above
@@ -137,7 +133,7 @@ module _ (f : Form) (s : List ℕ) (start own : ℕ) where
           ]
 
   -- they have none in a stored file either
-  fine-stored : FineGroup f s start own → group_fault (as_stored f) s start own ≡ Fine
+  fine-stored : FineGroup f s start own → group_fault (as_stored f) s start own ≡ Ok tt
   fine-stored fine =
       elim (dec_lt above own) [
         | yes small ↦ group-stored (as_stored f) s start own small refl
@@ -154,7 +150,7 @@ record FineClaim (K : ℕ) (claim : Claim) (cards shops : ℕ) : Type 0 where
   shop : claim.shop < shops
   kind : claim.kind < K
 
-claim-fine : (K : ℕ) (claim : Claim) (cards shops : ℕ) → claim_fault K claim cards shops ≡ Fine → FineClaim K claim cards shops
+claim-fine : (K : ℕ) (claim : Claim) (cards shops : ℕ) → claim_fault K claim cards shops ≡ Ok tt → FineClaim K claim cards shops
 unfolding claim_fault
 claim-fine K claim cards shops e =
     elim (dec_lt claim.card cards) [
@@ -179,8 +175,11 @@ claim-fine K claim cards shops e =
 --------------------------------------------------------------------------------
 -- A section that was read
 
+one-section : (x y : Section) → ◌≡◌ {A = Result Section Refusal} (Ok x) (Ok y) → x ≡ y
+one-section x y p = cc
+
 pub never-read :
-    {A : Type 0} (x : Section) (why : Refusal) (count start next : ℕ) → x ≡ Read count start next → x ≡ Faulty why → A
+    {A : Type 0} (x : Result Section Refusal) (why : Refusal) (count start next : ℕ) → x ≡ Ok (read_section count start next) → x ≡ Err why → A
 never-read x why count start next p q =
     let z : ◌≡◌ {A = ℕ} 0 1 = cc in
     absurd (omega arith)
@@ -198,18 +197,19 @@ module _ (s : List ℕ) (at most : ℕ) (over : Refusal) (width : ℕ) (checked 
   -- where records without a fault lie within the file and Each holds of them
   taken :
       (Each : ℕ → ℕ → Type 0) →
-      (checked ≡ Fine → (k : ℕ) → k < word s at → (at + 2 + width * k + width ≤ length s) × Each (at + 2) k) →
-      section_by s at most over width checked ≡ Read count start next → Taken s at most width Each count start next
+      (checked ≡ Ok tt → (k : ℕ) → k < word s at → (at + 2 + width * k + width ≤ length s) × Each (at + 2) k) →
+      section_by s at most over width checked ≡ Ok (read_section count start next) → Taken s at most width Each count start next
   taken Each records e = judged (count_fault s at most over) refl
     where
       told :
           at + 2 ≤ length s → word s at ≤ most → (x : Checked) → checked ≡ x →
-          Read count start next ≡ section_of x (word s at) (at + 2) width → Taken s at most width Each count start next
-      told whole small (Fault why) f is = never-read (Read count start next) why count start next refl is
-      told whole small Fine f is =
-          let counted : count ≡ word s at = cc in
-          let place : start ≡ at + 2 = cc in
-          let after : next ≡ at + 2 + width * word s at = cc in
+          Ok (read_section count start next) ≡ section_of x (word s at) (at + 2) width → Taken s at most width Each count start next
+      told whole small (Err why) f is = never-read (Ok (read_section count start next)) why count start next refl is
+      told whole small (Ok _) f is =
+          let same = one-section _ _ is in
+          let counted : count ≡ word s at = ap (λ (x : Section). x.count) same in
+          let place : start ≡ at + 2 = ap (λ (x : Section). x.start) same in
+          let after : next ≡ at + 2 + width * word s at = ap (λ (x : Section). x.next) same in
           record {
             counted = counted;
             place = place;
@@ -221,23 +221,23 @@ module _ (s : List ℕ) (at most : ℕ) (over : Refusal) (width : ℕ) (checked 
           }
 
       judged : (x : Checked) → count_fault s at most over ≡ x → Taken s at most width Each count start next
-      judged (Fault why) f = never-read _ why count start next e (section-fault s at most over width checked why f)
-      judged Fine f =
+      judged (Err why) f = never-read _ why count start next e (section-fault s at most over width checked why f)
+      judged (Ok _) f =
           let fine = count-fine s at most over f in
           told fine.0 fine.1 checked refl (sym e ∙ section-fits s at most over width checked f)
 
   -- its records have no fault
-  read-fine : section_by s at most over width checked ≡ Read count start next → checked ≡ Fine
+  read-fine : section_by s at most over width checked ≡ Ok (read_section count start next) → checked ≡ Ok tt
   read-fine e = judged (count_fault s at most over) refl
     where
       told :
-          (x : Checked) → checked ≡ x → Read count start next ≡ section_of x (word s at) (at + 2) width → checked ≡ Fine
-      told Fine f is = f
-      told (Fault why) f is = never-read (Read count start next) why count start next refl is
+          (x : Checked) → checked ≡ x → Ok (read_section count start next) ≡ section_of x (word s at) (at + 2) width → checked ≡ Ok tt
+      told (Ok _) f is = f
+      told (Err why) f is = never-read (Ok (read_section count start next)) why count start next refl is
 
-      judged : (x : Checked) → count_fault s at most over ≡ x → checked ≡ Fine
-      judged (Fault why) f = never-read _ why count start next e (section-fault s at most over width checked why f)
-      judged Fine f = told checked refl (sym e ∙ section-fits s at most over width checked f)
+      judged : (x : Checked) → count_fault s at most over ≡ x → checked ≡ Ok tt
+      judged (Err why) f = never-read _ why count start next e (section-fault s at most over width checked why f)
+      judged (Ok _) f = told checked refl (sym e ∙ section-fits s at most over width checked f)
 
 abbrev pub GroupFits : Form → List ℕ → ℕ → ℕ → Type 0
 GroupFits f s start = FineGroup f s start
@@ -246,7 +246,7 @@ abbrev RowFits : ℕ → List ℕ → ℕ → ℕ → ℕ → ℕ → Type 0
 RowFits K s cards shops start c = FineClaim K (claim_at (drop start s) c) cards shops
 
 module _ (s : List ℕ) (at count start next : ℕ) where
-  module _ (f : Form) (e : section_at f s at ≡ Read count start next) where
+  module _ (f : Form) (e : section_at f s at ≡ Ok (read_section count start next)) where
     abbrev wide : ℕ
     wide = group_width f.week
 
@@ -271,18 +271,18 @@ module _ (s : List ℕ) (at count start next : ℕ) where
         (read-fine s at max_groups GroupCount wide checked count start next e)
 
     -- it is read as a section of a stored file too
-    section-stored : section_at (as_stored f) s at ≡ Read count start next
+    section-stored : section_at (as_stored f) s at ≡ Ok (read_section count start next)
     unfolding section_at
     section-stored =
         let fine = read-fine s at max_groups GroupCount wide checked count start next e in
         let each = section-fine in
-        let stored : groups_from (as_stored f) s (at + 2) 0 (word s at) ≡ Fine =
+        let stored : groups_from (as_stored f) s (at + 2) 0 (word s at) ≡ Ok tt =
         records-pass (length s) (at + 2) wide (group_fault (as_stored f) s (at + 2)) (word s at) (λ g l. (each g l).whole)
         (λ g l. fine-stored f s (at + 2) g (group-fine f s (at + 2) g (each g l).fine)) (word s at) 0 (omega arith) in
         ap (section_by s at max_groups GroupCount wide) (stored ∙ sym fine) ∙ e
 
   claims-read :
-      (K cards shops : ℕ) → claims_at K s at cards shops ≡ Read count start next →
+      (K cards shops : ℕ) → claims_at K s at cards shops ≡ Ok (read_section count start next) →
       Taken s at max_rows claim_width (RowFits K s cards shops) count start next
   unfolding claims_at
   claims-read K cards shops =
@@ -299,8 +299,8 @@ module _ (s : List ℕ) (at count start next : ℕ) where
 -- The file
 
 -- the section of a side, by the layout
-abbrev pub section_in : Layout → ℕ → Section
-section_in l side = Read (count_of l side) (start_of l side) (start_of l side + group_width l.week * count_of l side)
+abbrev pub section_in : Layout → ℕ → Result Section Refusal
+section_in l side = Ok (read_section (count_of l side) (start_of l side) (start_of l side + group_width l.week * count_of l side))
 
 -- the day that a form names is no matter to its sections
 section-day : (f : Form) (s : List ℕ) (at d : ℕ) → section_at (for_day f d) s at ≡ section_at f s at
@@ -315,8 +315,8 @@ pub record Accords (K : ℕ) (f : Form) (s : List ℕ) (l : Layout) : Type 0 whe
   pub sound : Sound s l
   pub rows : word s (l.row_at - 2) ≡ l.rows
   pub kinds : Kinds K s l
-  pub stored : reading_in K (as_stored f) s ≡ Accepted l
-  pub on : (d : ℕ) → reading_in K (for_day f d) s ≡ Accepted (on_day l d)
+  pub stored : reading_in K (as_stored f) s ≡ Ok l
+  pub on : (d : ℕ) → reading_in K (for_day f d) s ≡ Ok (on_day l d)
   pub below : f.stored ≡ false → NoneAbove s l
 
 -- three sections that were read, one behind the other, up to the end of the file
@@ -334,9 +334,9 @@ module _ (K : ℕ) (f : Form) (s : List ℕ) (cards card_at next shops shop_at a
   }
 
   accords :
-      section_at f s 0 ≡ Read cards card_at next → section_at f s next ≡ Read shops shop_at after →
+      section_at f s 0 ≡ Ok (read_section cards card_at next) → section_at f s next ≡ Ok (read_section shops shop_at after) →
       Taken s after max_rows claim_width (RowFits K s cards shops) rows row_at end → length s ≤ end →
-      reading_in K (as_stored f) s ≡ Accepted l → ((d : ℕ) → reading_in K (for_day f d) s ≡ Accepted (on_day l d)) → Accords K f s l
+      reading_in K (as_stored f) s ≡ Ok l → ((d : ℕ) → reading_in K (for_day f d) s ≡ Ok (on_day l d)) → Accords K f s l
   accords cards-are shops-are taken h stored on =
       record {
         week = refl;
@@ -357,9 +357,9 @@ module _ (K : ℕ) (f : Form) (s : List ℕ) (cards card_at next shops shop_at a
       of_shops = section-read s next shops shop_at after f shops-are
 
       sections : (side : ℕ) → side < 2 → section_on f s side ≡ section_in l side
-      sections zero few = cards-are ∙ ap (Read cards card_at) (omega (arith, of_cards))
+      sections zero few = cards-are ∙ ap (λ (n : ℕ). Ok (read_section cards card_at n)) (omega (arith, of_cards))
       sections (suc zero) few =
-          ap (λ x. section_at f s (behind x)) cards-are ∙ shops-are ∙ ap (Read shops shop_at) (omega (arith, of_shops))
+          ap (λ x. section_at f s (behind x)) cards-are ∙ shops-are ∙ ap (λ (n : ℕ). Ok (read_section shops shop_at n)) (omega (arith, of_shops))
       sections (suc (suc n)) few = absurd (omega arith)
 
       groups : (side g : ℕ) → g < count_of l side → FineGroup f s (start_of l side) g
@@ -389,50 +389,50 @@ module _ (K : ℕ) (f : Form) (s : List ℕ) (cards card_at next shops shop_at a
         row_shops = λ c m. (taken.each c m).shop;
       }
 
-module _ (K : ℕ) (f : Form) (s : List ℕ) (l : Layout) (is : reading_in K f s ≡ Accepted l) where
-  refused : {A : Type 0} (why : Refusal) → reading_in K f s ≡ Refused why → A
+module _ (K : ℕ) (f : Form) (s : List ℕ) (l : Layout) (is : reading_in K f s ≡ Ok l) where
+  refused : {A : Type 0} (why : Refusal) → reading_in K f s ≡ Err why → A
   refused why e = not-both (reading_in K f s) l why is e
 
   through-claims :
-      (cards card_at next shops shop_at after : ℕ) → section_at f s 0 ≡ Read cards card_at next →
-      section_at f s next ≡ Read shops shop_at after → (x : Section) → claims_at K s after cards shops ≡ x → Accords K f s l
-  through-claims cards card_at next shops shop_at after cards-are shops-are (Faulty why) e =
+      (cards card_at next shops shop_at after : ℕ) → section_at f s 0 ≡ Ok (read_section cards card_at next) →
+      section_at f s next ≡ Ok (read_section shops shop_at after) → (x : Result Section Refusal) → claims_at K s after cards shops ≡ x → Accords K f s l
+  through-claims cards card_at next shops shop_at after cards-are shops-are (Err why) e =
       refused why (claims-fault K f s cards card_at next cards-are shops shop_at after shops-are why e)
-  through-claims cards card_at next shops shop_at after cards-are shops-are (Read rows row_at end) e =
-      elim (dec_lt end (length s)) [
+  through-claims cards card_at next shops shop_at after cards-are shops-are (Ok read) e =
+      elim (dec_lt read.next (length s)) [
         | yes more ↦
-            refused _ (trailing K f s cards card_at next cards-are shops shop_at after shops-are rows row_at end e more)
+            refused _ (trailing K f s cards card_at next cards-are shops shop_at after shops-are read.count read.start read.next e more)
         | no h ↦
-            let whole : length s ≤ end = omega arith in
+            let whole : length s ≤ read.next = omega arith in
             subst (Accords K f s)
             (one-layout _ _ _
-            (accepted K f s cards card_at next cards-are shops shop_at after shops-are rows row_at end e whole) is)
-            (accords K f s cards card_at next shops shop_at after rows row_at end cards-are shops-are
-            (claims-read s after rows row_at end K cards shops e) whole
+            (accepted K f s cards card_at next cards-are shops shop_at after shops-are read.count read.start read.next e whole) is)
+            (accords K f s cards card_at next shops shop_at after read.count read.start read.next cards-are shops-are
+            (claims-read s after read.count read.start read.next K cards shops e) whole
             (accepted K (as_stored f) s cards card_at next (section-stored s 0 cards card_at next f cards-are) shops shop_at after
-            (section-stored s next shops shop_at after f shops-are) rows row_at end e whole)
+            (section-stored s next shops shop_at after f shops-are) read.count read.start read.next e whole)
             (λ d.
             accepted K (for_day f d) s cards card_at next (section-day f s 0 d ∙ cards-are) shops shop_at after
-            (section-day f s next d ∙ shops-are) rows row_at end e whole))
+            (section-day f s next d ∙ shops-are) read.count read.start read.next e whole))
       ]
 
   through-shops :
-      (cards card_at next : ℕ) → section_at f s 0 ≡ Read cards card_at next → (x : Section) → section_at f s next ≡ x →
+      (cards card_at next : ℕ) → section_at f s 0 ≡ Ok (read_section cards card_at next) → (x : Result Section Refusal) → section_at f s next ≡ x →
       Accords K f s l
-  through-shops cards card_at next cards-are (Faulty why) e =
+  through-shops cards card_at next cards-are (Err why) e =
       refused why (shops-fault K f s cards card_at next cards-are why e)
-  through-shops cards card_at next cards-are (Read shops shop_at after) e =
-      through-claims cards card_at next shops shop_at after cards-are e (claims_at K s after cards shops) refl
+  through-shops cards card_at next cards-are (Ok read) e =
+      through-claims cards card_at next read.count read.start read.next cards-are e (claims_at K s read.next cards read.count) refl
 
-  through-cards : (x : Section) → section_at f s 0 ≡ x → Accords K f s l
-  through-cards (Faulty why) e = refused why (cards-fault K f s why e)
-  through-cards (Read cards card_at next) e = through-shops cards card_at next e (section_at f s next) refl
+  through-cards : (x : Result Section Refusal) → section_at f s 0 ≡ x → Accords K f s l
+  through-cards (Err why) e = refused why (cards-fault K f s why e)
+  through-cards (Ok read) e = through-shops read.count read.start read.next e (section_at f s read.next) refl
 
   pub accords-in : Accords K f s l
   accords-in = through-cards (section_at f s 0) refl
 
 -- under the first terms
-module _ (f : Form) (s : List ℕ) (l : Layout) (is : reading f s ≡ Accepted l) where
+module _ (f : Form) (s : List ℕ) (l : Layout) (is : reading f s ≡ Ok l) where
   all : Accords first_terms f s l
   all = accords-in first_terms f s l is
 
@@ -454,10 +454,10 @@ module _ (f : Form) (s : List ℕ) (l : Layout) (is : reading f s ≡ Accepted l
   pub accepted-kinds : Kinds first_terms s l
   accepted-kinds = all.kinds
 
-  pub accepted-stored : reading (as_stored f) s ≡ Accepted l
+  pub accepted-stored : reading (as_stored f) s ≡ Ok l
   accepted-stored = all.stored
 
-  pub accepted-on : (d : ℕ) → reading (for_day f d) s ≡ Accepted (on_day l d)
+  pub accepted-on : (d : ℕ) → reading (for_day f d) s ≡ Ok (on_day l d)
   accepted-on = all.on
 
   pub new-below : f.stored ≡ false → NoneAbove s l

@@ -20,19 +20,16 @@ use lib.ListN.{length}
 use lib.Dec.{leb}
 use borrow.Author.Tests.{lt-ltb, le-ltb, eq-eqb, ne_eqb, leb-true, le-leb, lt-leb}
 use Rattle.claimfile.specs.File.{top, columns, word, limit_at, record_at}
-use Rattle.reader.specs.Reading.{none_above, group_fault, claim_fault, records_from}
+use Rattle.reader.specs.Reading.{read_section, none_above, group_fault, claim_fault, records_from, Checked}
 use Rattle.reader.specs.Reading.{count_fault, section_of, section_by, section_at, claims_at, reading_in}
 use Rattle.theory.proofs.TestLaws.{either, every_true, true-every}
 use Rattle.claimfile.specs.declared.Form.{Form}
 use Rattle.reader.specs.declared.Refusal.{Refusal}
 use Rattle.reader.specs.declared.Refusal.TheVariants.{CutOff, Parent, Trailing, LimitAbove}
-use Rattle.reader.specs.declared.Checked.{Checked}
-use Rattle.reader.specs.declared.Checked.TheVariants.{Fine, Fault}
 use Rattle.claimfile.specs.declared.Claim.{Claim}
-use Rattle.reader.specs.declared.Section.TheVariants.{Read, Faulty}
-use Rattle.reader.specs.declared.Reading.TheVariants.{Accepted, Refused}
+use Rattle.std.specs.Prelude.{Ok, Err}
 
-pub never : {A : Type 0} (x : Checked) (why : Refusal) → x ≡ Fine → x ≡ Fault why → A
+pub never : {A : Type 0} (x : Checked) (why : Refusal) → x ≡ Ok tt → x ≡ Err why → A
 never x why p q =
     let z : ◌≡◌ {A = ℕ} 0 1 = cc in
     absurd (omega arith)
@@ -69,31 +66,31 @@ module _ (f : Form) (s : List ℕ) (start own : ℕ) where
   none = none_above s (place own) (place parent) (columns f.week)
 
   module _ (h : own ≤ parent) where
-    pub group-bad : (parent ≡ top → ⊥) → group_fault f s start own ≡ Fault Parent
+    pub group-bad : (parent ≡ top → ⊥) → group_fault f s start own ≡ Err Parent
     unfolding group_fault
     group-bad other = rw (le-ltb _ _ h, ne_eqb _ _ other)
 
-    pub group-top : parent ≡ top → group_fault f s start own ≡ Fine
+    pub group-top : parent ≡ top → group_fault f s start own ≡ Ok tt
     unfolding group_fault
     group-top e = rw (le-ltb _ _ h, eq-eqb _ _ e)
 
   module _ (h : parent < own) where
-    pub group-stored : f.stored ≡ true → group_fault f s start own ≡ Fine
+    pub group-stored : f.stored ≡ true → group_fault f s start own ≡ Ok tt
     unfolding group_fault
     group-stored e = rw (lt-ltb _ _ h, e)
 
-    pub group-above : f.stored ≡ false → none ≡ false → group_fault f s start own ≡ Fault LimitAbove
+    pub group-above : f.stored ≡ false → none ≡ false → group_fault f s start own ≡ Err LimitAbove
     unfolding group_fault
     group-above e more = rw (lt-ltb _ _ h, e, more)
 
-    pub group-new : f.stored ≡ false → none ≡ true → group_fault f s start own ≡ Fine
+    pub group-new : f.stored ≡ false → none ≡ true → group_fault f s start own ≡ Ok tt
     unfolding group_fault
     group-new e less = rw (lt-ltb _ _ h, e, less)
 
 -- a claim without a fault
 pub claim-passes :
     (K : ℕ) (claim : Claim) (cards shops : ℕ) → claim.card < cards → claim.shop < shops → claim.kind < K →
-    claim_fault K claim cards shops ≡ Fine
+    claim_fault K claim cards shops ≡ Ok tt
 unfolding claim_fault
 claim-passes K claim cards shops card shop kind = rw (lt-leb _ _ card, lt-leb _ _ shop, lt-leb _ _ kind)
 
@@ -104,7 +101,7 @@ one_less : (count k : ℕ) → k < count → count - k ≡ suc (count - (k + 1))
 one_less count k h = omega arith
 
 module _ (size start width : ℕ) (fault : ℕ → Checked) (count k : ℕ) where
-  pub no_record : count ≤ k → records_from size start width fault k (count - k) ≡ Fine
+  pub no_record : count ≤ k → records_from size start width fault k (count - k) ≡ Ok tt
   unfolding records_from
   no_record h =
       let e : count - k ≡ 0 = omega arith in
@@ -112,18 +109,18 @@ module _ (size start width : ℕ) (fault : ℕ → Checked) (count k : ℕ) wher
 
   module _ (h : k < count) where
     pub record_cut :
-        size < start + width * k + width → records_from size start width fault k (count - k) ≡ Fault CutOff
+        size < start + width * k + width → records_from size start width fault k (count - k) ≡ Err CutOff
     unfolding records_from
     record_cut short = rw (one_less count k h, lt-ltb _ _ short)
 
     module _ (whole : start + width * k + width ≤ size) where
       pub record_fault :
-          (why : Refusal) → fault k ≡ Fault why → records_from size start width fault k (count - k) ≡ Fault why
+          (why : Refusal) → fault k ≡ Err why → records_from size start width fault k (count - k) ≡ Err why
       unfolding records_from
       record_fault why e = rw (one_less count k h, le-ltb _ _ whole, e)
 
       pub next-record :
-          fault k ≡ Fine →
+          fault k ≡ Ok tt →
           records_from size start width fault k (count - k) ≡ records_from size start width fault (k + 1) (count - (k + 1))
       unfolding records_from
       next-record e =
@@ -133,8 +130,8 @@ module _ (size start width : ℕ) (fault : ℕ → Checked) (count k : ℕ) wher
 -- records that lie within the bytes and have no fault
 pub records-pass :
     (size start width : ℕ) (fault : ℕ → Checked) (count : ℕ) →
-    ((k : ℕ) → k < count → start + width * k + width ≤ size) → ((k : ℕ) → k < count → fault k ≡ Fine) →
-    (left k : ℕ) → k + left ≡ count → records_from size start width fault k left ≡ Fine
+    ((k : ℕ) → k < count → start + width * k + width ≤ size) → ((k : ℕ) → k < count → fault k ≡ Ok tt) →
+    (left k : ℕ) → k + left ≡ count → records_from size start width fault k left ≡ Ok tt
 unfolding records_from
 records-pass size start width fault count whole fine zero k e = refl
 records-pass size start width fault count whole fine (suc left) k e =
@@ -145,21 +142,21 @@ records-pass size start width fault count whole fine (suc left) k e =
 -- The sections
 
 module _ (s : List ℕ) (at most : ℕ) (over : Refusal) where
-  pub count_cut : length s < at + 2 → count_fault s at most over ≡ Fault CutOff
+  pub count_cut : length s < at + 2 → count_fault s at most over ≡ Err CutOff
   unfolding count_fault
   count_cut h = rw (lt-ltb _ _ h)
 
   module _ (whole : at + 2 ≤ length s) where
-    pub count-large : most < word s at → count_fault s at most over ≡ Fault over
+    pub count-large : most < word s at → count_fault s at most over ≡ Err over
     unfolding count_fault
     count-large h = rw (le-ltb _ _ whole, lt-ltb _ _ h)
 
-    pub count_fits : word s at ≤ most → count_fault s at most over ≡ Fine
+    pub count_fits : word s at ≤ most → count_fault s at most over ≡ Ok tt
     unfolding count_fault
     count_fits h = rw (le-ltb _ _ whole, le-ltb _ _ h)
 
   -- a count without a fault is whole, and not over the most
-  pub count-fine : count_fault s at most over ≡ Fine → (at + 2 ≤ length s) × (word s at ≤ most)
+  pub count-fine : count_fault s at most over ≡ Ok tt → (at + 2 ≤ length s) × (word s at ≤ most)
   count-fine e =
       elim (dec_lt (length s) (at + 2)) [
         | yes short ↦ never _ _ e (count_cut short)
@@ -173,11 +170,11 @@ module _ (s : List ℕ) (at most : ℕ) (over : Refusal) where
 
   module _ (width : ℕ) (checked : Checked) where
     pub section-fault :
-        (why : Refusal) → count_fault s at most over ≡ Fault why → section_by s at most over width checked ≡ Faulty why
+        (why : Refusal) → count_fault s at most over ≡ Err why → section_by s at most over width checked ≡ Err why
     section-fault why e = rw e
 
     pub section-fits :
-        count_fault s at most over ≡ Fine →
+        count_fault s at most over ≡ Ok tt →
         section_by s at most over width checked ≡ section_of checked (word s at) (at + 2) width
     section-fits e = rw e
 
@@ -185,29 +182,29 @@ module _ (s : List ℕ) (at most : ℕ) (over : Refusal) where
 -- The file
 
 module _ (K : ℕ) (f : Form) (s : List ℕ) where
-  pub cards-fault : (why : Refusal) → section_at f s 0 ≡ Faulty why → reading_in K f s ≡ Refused why
+  pub cards-fault : (why : Refusal) → section_at f s 0 ≡ Err why → reading_in K f s ≡ Err why
   unfolding reading_in
   cards-fault why e = rw e
 
-  module _ (cards card_at next : ℕ) (cards-read : section_at f s 0 ≡ Read cards card_at next) where
-    pub shops-fault : (why : Refusal) → section_at f s next ≡ Faulty why → reading_in K f s ≡ Refused why
+  module _ (cards card_at next : ℕ) (cards-read : section_at f s 0 ≡ Ok (read_section cards card_at next)) where
+    pub shops-fault : (why : Refusal) → section_at f s next ≡ Err why → reading_in K f s ≡ Err why
     unfolding reading_in
     shops-fault why e = rw (cards-read, e)
 
-    module _ (shops shop_at after : ℕ) (shops-read : section_at f s next ≡ Read shops shop_at after) where
-      pub claims-fault : (why : Refusal) → claims_at K s after cards shops ≡ Faulty why → reading_in K f s ≡ Refused why
+    module _ (shops shop_at after : ℕ) (shops-read : section_at f s next ≡ Ok (read_section shops shop_at after)) where
+      pub claims-fault : (why : Refusal) → claims_at K s after cards shops ≡ Err why → reading_in K f s ≡ Err why
       unfolding reading_in
       claims-fault why e = rw (cards-read, shops-read, e)
 
-      module _ (rows row_at end : ℕ) (claims-read : claims_at K s after cards shops ≡ Read rows row_at end) where
-        pub trailing : end < length s → reading_in K f s ≡ Refused Trailing
+      module _ (rows row_at end : ℕ) (claims-read : claims_at K s after cards shops ≡ Ok (read_section rows row_at end)) where
+        pub trailing : end < length s → reading_in K f s ≡ Err Trailing
         unfolding reading_in
         trailing h = rw (cards-read, shops-read, claims-read, lt-ltb _ _ h)
 
         pub accepted :
             length s ≤ end →
             reading_in K f s
-            ≡ Accepted
+            ≡ Ok
             (record {
               week = f.week;
               day = f.day;

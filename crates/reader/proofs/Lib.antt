@@ -1,4 +1,5 @@
 -- The laws of reading a claim file.
+pub mod PassedLaws
 pub mod FileLaws
 pub mod AcceptedLaws
 pub mod SectionLaws

@@ -25,23 +25,20 @@ use borrow.Author.Tests.{lt-ltb, le-ltb}
 use Rattle.theory.specs.Bounds.{max_groups}
 use Rattle.theory.specs.Sum.{pick, every}
 use Rattle.claimfile.specs.File.{first_terms, columns, column_of, group_width, word, limit_at, record_at, group_at}
-use Rattle.reader.specs.Reading.{or_else, parent_fault, none_above, group_fault, records_from}
+use Rattle.reader.specs.Reading.{read_section, or_else, parent_fault, none_above, group_fault, records_from, Checked}
 use Rattle.reader.specs.Reading.{groups_from, count_fault, section_of, section_at, reading}
 use Rattle.reader.specs.Sections.{behind, place_on, section_on, from_count, OwnBytes}
 use Rattle.claimfile.specs.Day.{start_of, count_of, group_of}
 use Rattle.claimfile.specs.declared.Form.{Form}
 use Rattle.reader.specs.declared.Refusal.TheVariants.{CutOff, GroupCount, LimitAbove}
 use Rattle.reader.specs.declared.Refusal.{Refusal}
-use Rattle.reader.specs.declared.Checked.{Checked}
-use Rattle.reader.specs.declared.Checked.TheVariants.{Fine, Fault}
 use Rattle.reader.specs.declared.Section.{Section}
-use Rattle.reader.specs.declared.Section.TheVariants.{Read, Faulty}
 use Rattle.claimfile.specs.declared.Layout.{Layout}
-use Rattle.reader.specs.declared.Reading.TheVariants.{Accepted, Refused}
 use Rattle.reader.proofs.FileLaws.{records-pass, count_fits, section-fits, cards-fault, shops-fault}
 use Rattle.claimfile.proofs.WidthLaws.{width-least, width-inside, column-within, column-small}
 use Rattle.reader.proofs.AcceptedLaws.{never-read, Taken, GroupFits, section-read, section-fine}
 use Rattle.reader.proofs.AcceptedLaws.{accepted-week, accepted-day, accepted-sections}
+use Rattle.std.specs.Prelude.{Ok, Err, Result}
 
 --------------------------------------------------------------------------------
 -- Records, one by one
@@ -112,7 +109,7 @@ module _ (f : Form) (w : Bool) (s t : List ℕ) (start start' own : ℕ) where
       fault_by : ℕ → Bool → Checked
       fault_by p none =
           or_else (parent_fault own p)
-          (pick (ltb p own) (pick f.stored Fine (pick none Fine (Fault LimitAbove))) Fine)
+          (pick (ltb p own) (pick f.stored (Ok tt) (pick none (Ok tt) (Err LimitAbove))) (Ok tt))
 
       parents :
           fault_by (word s (in-s own)) (none_above s (in-s own) (in-s (word s (in-s own))) (columns f.week))
@@ -180,14 +177,14 @@ module _ (s : List ℕ) (a : ℕ) where
     count-part : count_fault s a max_groups GroupCount ≡ count_fault part 0 max_groups GroupCount
     unfolding count_fault
     count-part =
-        ap₂ (λ x n. pick x (Fault CutOff) (pick (ltb max_groups n) (Fault GroupCount) Fine))
+        ap₂ (λ x n. pick x (Err CutOff) (pick (ltb max_groups n) (Err GroupCount) (Ok tt)))
         (cut-part (0 + 2) (a + 2) (omega arith)) (word-part 0 a (omega arith))
 
     -- its places move with it
     placed-part :
         (x : Checked) (n width : ℕ) → from_count a (section_of x n (a + 2) width) ≡ from_count 0 (section_of x n (0 + 2) width)
-    placed-part Fine n width = ap₂ (λ p q. Read n p q) (omega arith) (omega arith)
-    placed-part (Fault why) n width = refl
+    placed-part (Ok _) n width = ap₂ (λ p q. Ok (read_section n p q)) (omega arith) (omega arith)
+    placed-part (Err why) n width = refl
 
     section-part : (f : Form) → from_count a (section_at f s a) ≡ from_count 0 (section_at f part 0)
     unfolding section_at
@@ -255,9 +252,9 @@ module _ (f : Form) (s t : List ℕ) (a b count start next : ℕ) where
   size = 2 + group_width w * count
 
   pub section-own :
-      section_at f s a ≡ Read count start next → OwnBytes s a t b (2 + group_width f.week * count) →
+      section_at f s a ≡ Ok (read_section count start next) → OwnBytes s a t b (2 + group_width f.week * count) →
       b + 2 + group_width f.week * count ≤ length t →
-      section_at f t b ≡ Read count (b + 2) (b + 2 + group_width f.week * count)
+      section_at f t b ≡ Ok (read_section count (b + 2) (b + 2 + group_width f.week * count))
   unfolding section_at
   section-own e own room =
       section-fits t b max_groups GroupCount (group_width w) (groups_from f t (b + 2) 0 (word t b))
@@ -281,12 +278,12 @@ module _ (f : Form) (s t : List ℕ) (a b count start next : ℕ) where
       same g h = record_own s t a b size own w (a + 2) (b + 2) g refl refl (omega (arith, width-inside w g count h))
 
       -- a smaller parent is one of the records too
-      judged : (g : ℕ) → g < count → group_fault f t (b + 2) g ≡ Fine
+      judged : (g : ℕ) → g < count → group_fault f t (b + 2) g ≡ Ok tt
       judged g h =
           sym (fault-same f s t (a + 2) (b + 2) g (same g h) (λ small. same (word s (record_at w (a + 2) g)) (omega arith)))
           ∙ (section-fine s a count start next f e g (omega (arith, read.counted))).fine
 
-      fine : groups_from f t (b + 2) 0 count ≡ Fine
+      fine : groups_from f t (b + 2) 0 count ≡ Ok tt
       fine =
           records-pass (length t) (b + 2) (group_width w) (group_fault f t (b + 2)) count
           (λ k h. omega (arith, width-inside w k count h)) judged count 0 (omega arith)
@@ -298,9 +295,9 @@ place-within : (f : Form) (s : List ℕ) (side : ℕ) → place_on f s side ≤ 
 place-within f s zero = zero-le
 place-within f s (suc side) = within (section_on f s side) refl
   where
-    within : (x : Section) → section_on f s side ≡ x → behind x ≤ length s
-    within (Read count start next) e = (section-read s (place_on f s side) count start next f e).within
-    within (Faulty why) e = zero-le
+    within : (x : Result Section Refusal) → section_on f s side ≡ x → behind x ≤ length s
+    within (Ok read) e = (section-read s (place_on f s side) read.count read.start read.next f e).within
+    within (Err why) e = zero-le
 
 -- "the same bytes, read as a card section or as a shop section by calls of one sort, give the same groups and end, or the same number":
 -- the same count and end, or the same number
@@ -310,7 +307,7 @@ pub sides-same :
 sides-same f s t i j same = section-same s t (place_on f s i) (place_on f t j) same f (place-within f s i) (place-within f t j)
 
 -- and the same groups: of two accepted files with the same section on a side of each, whatever the rest of them is
-module _ (f : Form) (s : List ℕ) (l : Layout) (is : reading f s ≡ Accepted l) (side : ℕ) (few : side < 2) where
+module _ (f : Form) (s : List ℕ) (l : Layout) (is : reading f s ≡ Ok l) (side : ℕ) (few : side < 2) where
   abbrev end : ℕ
   end = start_of l side + group_width l.week * count_of l side
 
@@ -320,7 +317,7 @@ module _ (f : Form) (s : List ℕ) (l : Layout) (is : reading f s ≡ Accepted l
   taken-on = section-read s (place_on f s side) (count_of l side) (start_of l side) end f (accepted-sections f s l is side few)
 
 pub sides-own :
-    (f : Form) (s t : List ℕ) (k l : Layout) → reading f s ≡ Accepted k → reading f t ≡ Accepted l → (i j : ℕ) → i < 2 → j < 2 →
+    (f : Form) (s t : List ℕ) (k l : Layout) → reading f s ≡ Ok k → reading f t ≡ Ok l → (i j : ℕ) → i < 2 → j < 2 →
     OwnBytes s (place_on f s i) t (place_on f t j) (2 + group_width f.week * count_of k i) →
     (count_of k i ≡ count_of l j) × ((g : ℕ) → g < count_of k i → group_of s k i g ≡ group_of t l j g)
 sides-own f s t k l sk tl i j hi hj own =
@@ -342,15 +339,15 @@ sides-own f s t k l sk tl i j hi hj own =
 --------------------------------------------------------------------------------
 -- A faulty section
 
-fault-there : (at : ℕ) (x : Section) (why : Refusal) → from_count at x ≡ Faulty why → x ≡ Faulty why
-fault-there at (Faulty w) why e = e
-fault-there at (Read count start next) why e =
-    never-read (from_count at (Read count start next)) why count (start - at) (next - at) refl e
+fault-there : (at : ℕ) (x : Result Section Refusal) (why : Refusal) → from_count at x ≡ Err why → x ≡ Err why
+fault-there at (Err w) why e = e
+fault-there at (Ok read) why e =
+    never-read (from_count at (Ok read)) why read.count (read.start - at) (read.next - at) refl e
 
 -- The file t has a card section and then the bytes of the file s, whose card section is faulty: both are refused with the same number.
 pub sides-number :
-    (f : Form) (s t : List ℕ) (cards card_at next : ℕ) (why : Refusal) → section_at f t 0 ≡ Read cards card_at next →
-    s ≡ drop next t → section_at f s 0 ≡ Faulty why → (reading f s ≡ Refused why) × (reading f t ≡ Refused why)
+    (f : Form) (s t : List ℕ) (cards card_at next : ℕ) (why : Refusal) → section_at f t 0 ≡ Ok (read_section cards card_at next) →
+    s ≡ drop next t → section_at f s 0 ≡ Err why → (reading f s ≡ Err why) × (reading f t ≡ Err why)
 sides-number f s t cards card_at next why read same e =
     let within : next ≤ length t = (section-read t 0 cards card_at next f read).within in
     let moved = section-same s t 0 next same f zero-le within in (

@@ -22,15 +22,15 @@ use Rattle.claimfile.specs.Day.{kind_of, groups_of, written_of, limit_of, networ
 use Rattle.claimfile.specs.Sound.{Sound, Kinds}
 use Rattle.claimfile.specs.declared.Form.{Form}
 use Rattle.claimfile.specs.declared.Layout.{Layout}
-use Rattle.reader.specs.declared.Reading.TheVariants.{Accepted}
 use Rattle.reader.proofs.AcceptedLaws.{accepted-stored, new-below}
 use Rattle.claimfile.proofs.DayLaws.{limit-written, limit-lists, limit-spare}
+use Rattle.std.specs.Prelude.{Ok}
 
-module _ (f : Form) (s : List ℕ) (l : Layout) (is : reading f s ≡ Accepted l) where
+module _ (f : Form) (s : List ℕ) (l : Layout) (is : reading f s ≡ Ok l) where
   pub new-limits : f.stored ≡ false → (v : ℕ) → v < groups_of l → limit_of s l v ≡ written_of s l v
   new-limits new = limit-written s l (new-below f s l is new)
 
-  pub new-stored : reading (as_stored f) s ≡ Accepted l
+  pub new-stored : reading (as_stored f) s ≡ Ok l
   new-stored = accepted-stored f s l is
 
 module _ (s : List ℕ) (l : Layout) (sound : Sound s l) where

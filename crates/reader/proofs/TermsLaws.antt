@@ -17,7 +17,7 @@ use lib.ListN.{length, drop, length-drop}
 use borrow.Author.Tests.{lt-leb}
 use Rattle.theory.specs.Bounds.{max_rows}
 use Rattle.claimfile.specs.File.{first_terms, second_terms, new_week, group_width, claim_width, word, claim_at}
-use Rattle.reader.specs.Reading.{claim_fault}
+use Rattle.reader.specs.Reading.{read_section, claim_fault}
 use Rattle.reader.specs.Reading.{section_by, section_at, claims_at, after_claims, after_shops, after_cards}
 use Rattle.reader.specs.Reading.{reading_in, reading, reading_kinds}
 use Rattle.reader.specs.Sections.{behind, section_on}
@@ -30,11 +30,10 @@ use Rattle.claimfile.specs.declared.Layout.{Layout}
 use Rattle.reader.specs.declared.Refusal.{Refusal}
 use Rattle.reader.specs.declared.Refusal.TheVariants.{ClaimCount}
 use Rattle.reader.specs.declared.Section.{Section}
-use Rattle.reader.specs.declared.Section.TheVariants.{Read, Faulty}
-use Rattle.reader.specs.declared.Reading.TheVariants.{Accepted, Refused}
 use Rattle.reader.proofs.AcceptedLaws.{Accords, accords-in, accepted-kinds}
 use Rattle.claimfile.proofs.WidthLaws.{width-split}
 use Rattle.reader.proofs.SectionLaws.{records-same}
+use Rattle.std.specs.Prelude.{Ok, Err, Result}
 
 --------------------------------------------------------------------------------
 -- Any file
@@ -62,15 +61,16 @@ module _ (K L : ℕ) (more : K ≤ L) (f : Form) (s : List ℕ) where
 
   module _ (few : OfKinds K f s) where
     by-shops :
-        (cards card_at next : ℕ) → section_at f s 0 ≡ Read cards card_at next → (x : Section) → section_at f s next ≡ x →
+        (cards card_at next : ℕ) → section_at f s 0 ≡ Ok (read_section cards card_at next) → (x : Result Section Refusal) → section_at f s next ≡ x →
         after_shops K f s cards card_at x ≡ after_shops L f s cards card_at x
-    by-shops cards card_at next is (Read shops shop_at at) e =
-        ap (after_claims f s cards shops card_at shop_at) (claims-same at cards shops (few cards card_at next shops shop_at at is e))
-    by-shops cards card_at next is (Faulty why) e = refl
+    by-shops cards card_at next is (Ok read) e =
+        ap (after_claims f s cards read.count card_at read.start)
+        (claims-same read.next cards read.count (few cards card_at next read.count read.start read.next is e))
+    by-shops cards card_at next is (Err why) e = refl
 
-    by-cards : (x : Section) → section_at f s 0 ≡ x → after_cards K f s x ≡ after_cards L f s x
-    by-cards (Read cards card_at next) e = by-shops cards card_at next e (section_at f s next) refl
-    by-cards (Faulty why) e = refl
+    by-cards : (x : Result Section Refusal) → section_at f s 0 ≡ x → after_cards K f s x ≡ after_cards L f s x
+    by-cards (Ok read) e = by-shops read.count read.start read.next e (section_at f s read.next) refl
+    by-cards (Err why) e = refl
 
     pub same-reading : reading_in K f s ≡ reading_in L f s
     unfolding reading_in
@@ -80,13 +80,13 @@ module _ (d : ℕ) (s : List ℕ) (few : OfKinds first_terms (new_week d) s) whe
   pub either-reading : reading (new_week d) s ≡ reading_kinds d s
   either-reading = same-reading first_terms second_terms (omega arith) (new_week d) s few
 
-  pub either-refused : (why : Refusal) → (reading (new_week d) s ≡ Refused why) ↔ (reading_kinds d s ≡ Refused why)
+  pub either-refused : (why : Refusal) → (reading (new_week d) s ≡ Err why) ↔ (reading_kinds d s ≡ Err why)
   either-refused why = (λ e. sym either-reading ∙ e, λ e. either-reading ∙ e)
 
 --------------------------------------------------------------------------------
 -- Accepted files
 
-module _ (K L : ℕ) (f : Form) (s : List ℕ) (l : Layout) (is : reading_in L f s ≡ Accepted l) where
+module _ (K L : ℕ) (f : Form) (s : List ℕ) (l : Layout) (is : reading_in L f s ≡ Ok l) where
   abbrev all : Accords L f s l
   all = accords-in L f s l is
 
@@ -95,7 +95,7 @@ module _ (K L : ℕ) (f : Form) (s : List ℕ) (l : Layout) (is : reading_in L f
   kinds-of few cards card_at next shops shop_at at cards-are shops-are c h whole =
       subst (λ (start : ℕ). (claim_at (drop start s) c).kind < K) (sym place) (few c (omega (arith, h, count)))
     where
-      shops-on : section_on f s 1 ≡ Read shops shop_at at
+      shops-on : section_on f s 1 ≡ Ok (read_section shops shop_at at)
       shops-on = ap (λ x. section_at f s (behind x)) cards-are ∙ shops-are
 
       behind-both : at ≡ start_of l 1 + group_width l.week * l.shops
@@ -110,11 +110,11 @@ module _ (K L : ℕ) (f : Form) (s : List ℕ) (l : Layout) (is : reading_in L f
           ap (word s) before ∙ all.rows
 
 module _ (d : ℕ) (s : List ℕ) (l : Layout) where
-  pub first-second : reading (new_week d) s ≡ Accepted l → reading_kinds d s ≡ Accepted l
+  pub first-second : reading (new_week d) s ≡ Ok l → reading_kinds d s ≡ Ok l
   first-second is =
       sym (either-reading d s (kinds-of first_terms first_terms (new_week d) s l is (accepted-kinds (new_week d) s l is))) ∙ is
 
-  module _ (is : reading_kinds d s ≡ Accepted l) where
+  module _ (is : reading_kinds d s ≡ Ok l) where
     all-second : Accords second_terms (new_week d) s l
     all-second = accords-in second_terms (new_week d) s l is
 

@@ -1,4 +1,7 @@
 -- What any list of bytes is, accepted or refused (document 01, "Turned-away files").
+--   Checked                what a check answers: no fault, or the first one
+--   Reading                what a file is read as: its layout, or the first fault met
+--   read_section count start next    a section that was read, with its fields
 --   or_else x y             the first fault of two checks
 --   parent_fits own parent  whether a group with its own number may have that parent
 --   parent_fault own group  the fault of a group's parent
@@ -13,7 +16,6 @@
 --   section_of checked count start width     a section by the check of its count and its records
 --   section_by s at most over width checked  the section whose count stands at a place, by the check of its records
 --   section_at, claims_at    the group section and the claims section whose count stands at a place
---   refused_by section      the reading of a file with a faulty section
 --   after_cards, after_shops, after_claims     the reading of a file, by the section that was read last
 --   reading_in K f s        the file with K kinds: accepted with its layout, or refused by the first fault met
 --   reading f s            the same under the first terms
@@ -23,28 +25,33 @@
 -- Document 02, E4: "11, a group's limit is above its parent's, judged on the same record after 3, and not by the calls for stored
 -- files." E9: "A group record becomes 16 bytes: parent, then seven limits of 16 bits, for days 0 to 6. .. Old-layout files .. act as ones with
 -- the same limit on seven days. The parent test and the lowering of E4 hold for each of the seven."
-use Rattle.std.specs.Prelude.{ℕ, zero, suc, ◌+◌, ◌*◌, List, Bool, true, length, drop, ltb, leb, eqb}
+use Rattle.std.specs.Prelude.{ℕ, zero, suc, ◌+◌, ◌*◌, List, Bool, true, length, drop, ltb, leb, eqb, Ok, Result, Ok, Err}
 use Rattle.theory.specs.Bounds.{max_groups, max_rows}
 use Rattle.theory.specs.Sum.{pick, every}
 use Rattle.claimfile.specs.declared.Form.{Form}
 use Rattle.reader.specs.declared.Refusal.{Refusal}
 use Rattle.reader.specs.declared.Refusal.TheVariants.{CutOff, GroupCount, Parent, ClaimCount, NoSuchGroup}
 use Rattle.reader.specs.declared.Refusal.TheVariants.{Kind, Trailing, LimitAbove}
-use Rattle.reader.specs.declared.Checked.{Checked}
-use Rattle.reader.specs.declared.Checked.TheVariants.{Fine, Fault}
 use Rattle.reader.specs.declared.Section.{Section}
-use Rattle.reader.specs.declared.Section.TheVariants.{Read, Faulty}
-use Rattle.reader.specs.declared.Reading.{Reading}
-use Rattle.reader.specs.declared.Reading.TheVariants.{Accepted, Refused}
 use Rattle.claimfile.specs.declared.Claim.{Claim}
+use Rattle.claimfile.specs.declared.Layout.{Layout}
 use Rattle.claimfile.specs.File.{new_week, first_terms, second_terms, top, columns, group_width, claim_width, word, limit_at, record_at, claim_at}
+
+abbrev pub Checked : Type 0
+Checked = Result (Unit {0}) Refusal
+
+abbrev pub Reading : Type 0
+Reading = Result Layout Refusal
+
+abbrev pub read_section : ℕ → ℕ → ℕ → Section
+read_section count start next = record { count = count; start = start; next = next }
 
 --------------------------------------------------------------------------------
 -- The records of a section
 
 abbrev pub or_else : Checked → Checked → Checked
-or_else Fine next = next
-or_else (Fault why) next = Fault why
+or_else (Ok _) next = next
+or_else (Err why) next = Err why
 
 -- "A parent is a smaller group number of that section, or 65535 for a group at the top."
 abbrev pub parent_fits : ℕ → ℕ → Bool
@@ -52,7 +59,7 @@ parent_fits own parent = pick (ltb parent own) true (eqb parent top)
 
 -- refusal 3
 abbrev pub parent_fault : ℕ → ℕ → Checked
-parent_fault own parent = pick (parent_fits own parent) Fine (Fault Parent)
+parent_fault own parent = pick (parent_fits own parent) (Ok tt) (Err Parent)
 
 -- refusal 11, on any day
 unfoldable pub none_above : List ℕ → ℕ → ℕ → ℕ → Bool
@@ -60,29 +67,29 @@ none_above s own parent n = every n (λ k. leb (limit_at s own k) (limit_at s pa
 
 abbrev pub limits_fault : Form → List ℕ → ℕ → ℕ → Checked
 limits_fault f s own parent =
-    pick f.stored Fine (pick (none_above s own parent (columns f.week)) Fine (Fault LimitAbove))
+    pick f.stored (Ok tt) (pick (none_above s own parent (columns f.week)) (Ok tt) (Err LimitAbove))
 
 -- 3, then 11 on the same record; a group at the top has no parent whose limits could be passed
 unfoldable pub group_fault : Form → List ℕ → ℕ → ℕ → Checked
 group_fault f s start own =
     let at : ℕ → ℕ = record_at f.week start in
     let parent = word s (at own) in
-    or_else (parent_fault own parent) (pick (ltb parent own) (limits_fault f s (at own) (at parent)) Fine)
+    or_else (parent_fault own parent) (pick (ltb parent own) (limits_fault f s (at own) (at parent)) (Ok tt))
 
 -- refusals 5 and 6: the fields of one claim in order. Refusal 6 is "a kind is neither 0 nor 1" where there are two kinds, and "a kind
 -- over 3" where there are four
 unfoldable pub claim_fault : ℕ → Claim → ℕ → ℕ → Checked
 claim_fault K claim cards shops =
     pick (leb cards claim.card)
-    (Fault NoSuchGroup)
-    (pick (leb shops claim.shop) (Fault NoSuchGroup) (pick (leb K claim.kind) (Fault Kind) Fine))
+    (Err NoSuchGroup)
+    (pick (leb shops claim.shop) (Err NoSuchGroup) (pick (leb K claim.kind) (Err Kind) (Ok tt)))
 
 -- refusal 1 of the next record, then its fields, then the records behind it
 unfoldable pub records_from : ℕ → ℕ → ℕ → (ℕ → Checked) → ℕ → ℕ → Checked
-records_from size start width fault k zero = Fine
+records_from size start width fault k zero = Ok tt
 records_from size start width fault k (suc left) =
     pick (ltb size (start + width * k + width))
-    (Fault CutOff)
+    (Err CutOff)
     (or_else (fault k) (records_from size start width fault (suc k) left))
 
 abbrev pub groups_from : Form → List ℕ → ℕ → ℕ → ℕ → Checked
@@ -97,56 +104,53 @@ rows_from K r cards shops = records_from (length r) 0 claim_width (λ c. claim_f
 -- refusal 1 of a count, then its own refusal: 2 or 4
 unfoldable pub count_fault : List ℕ → ℕ → ℕ → Refusal → Checked
 count_fault s at most over =
-    pick (ltb (length s) (at + 2)) (Fault CutOff) (pick (ltb most (word s at)) (Fault over) Fine)
+    pick (ltb (length s) (at + 2)) (Err CutOff) (pick (ltb most (word s at)) (Err over) (Ok tt))
 
-abbrev pub section_of : Checked → ℕ → ℕ → ℕ → Section
-section_of Fine count start width = Read count start (start + width * count)
-section_of (Fault why) count start width = Faulty why
+abbrev pub section_of : Checked → ℕ → ℕ → ℕ → Result Section Refusal
+section_of (Ok _) count start width = Ok (read_section count start (start + width * count))
+section_of (Err why) count start width = Err why
 
-abbrev pub section_by : List ℕ → ℕ → ℕ → Refusal → ℕ → Checked → Section
+abbrev pub section_by : List ℕ → ℕ → ℕ → Refusal → ℕ → Checked → Result Section Refusal
 section_by s at most over width checked = section_of (or_else (count_fault s at most over) checked) (word s at) (at + 2) width
 
 -- one definition for cards and for shops
-unfoldable pub section_at : Form → List ℕ → ℕ → Section
+unfoldable pub section_at : Form → List ℕ → ℕ → Result Section Refusal
 section_at f s at = section_by s at max_groups GroupCount (group_width f.week) (groups_from f s (at + 2) 0 (word s at))
 
 -- the records are "the part of the file that starts at its first record"
-unfoldable pub claims_at : ℕ → List ℕ → ℕ → ℕ → ℕ → Section
+unfoldable pub claims_at : ℕ → List ℕ → ℕ → ℕ → ℕ → Result Section Refusal
 claims_at K s at cards shops =
     section_by s at max_rows ClaimCount claim_width (rows_from K (drop (at + 2) s) cards shops 0 (word s at))
 
 --------------------------------------------------------------------------------
 -- The file
 
-abbrev pub refused_by : Section → Reading
-refused_by (Faulty why) = Refused why
-refused_by (Read count start next) = Refused CutOff
-
 -- refusal 7, once every claim is read
-abbrev pub after_claims : Form → List ℕ → ℕ → ℕ → ℕ → ℕ → Section → Reading
-after_claims f s cards shops card_at shop_at (Read rows row_at end) =
-    pick (ltb end (length s))
-    (Refused Trailing)
-    (Accepted
+abbrev pub after_claims : Form → List ℕ → ℕ → ℕ → ℕ → ℕ → Result Section Refusal → Reading
+after_claims f s cards shops card_at shop_at (Ok read) =
+    pick (ltb read.next (length s))
+    (Err Trailing)
+    (Ok
     (record {
       week = f.week;
       day = f.day;
       cards = cards;
       shops = shops;
-      rows = rows;
+      rows = read.count;
       card_at = card_at;
       shop_at = shop_at;
-      row_at = row_at;
+      row_at = read.start;
     }))
-after_claims f s cards shops card_at shop_at (Faulty why) = Refused why
+after_claims f s cards shops card_at shop_at (Err why) = Err why
 
-abbrev pub after_shops : ℕ → Form → List ℕ → ℕ → ℕ → Section → Reading
-after_shops K f s cards card_at (Read shops shop_at next) = after_claims f s cards shops card_at shop_at (claims_at K s next cards shops)
-after_shops K f s cards card_at (Faulty why) = Refused why
+abbrev pub after_shops : ℕ → Form → List ℕ → ℕ → ℕ → Result Section Refusal → Reading
+after_shops K f s cards card_at (Ok read) =
+    after_claims f s cards read.count card_at read.start (claims_at K s read.next cards read.count)
+after_shops K f s cards card_at (Err why) = Err why
 
-abbrev pub after_cards : ℕ → Form → List ℕ → Section → Reading
-after_cards K f s (Read cards card_at next) = after_shops K f s cards card_at (section_at f s next)
-after_cards K f s (Faulty why) = Refused why
+abbrev pub after_cards : ℕ → Form → List ℕ → Result Section Refusal → Reading
+after_cards K f s (Ok read) = after_shops K f s read.count read.start (section_at f s read.next)
+after_cards K f s (Err why) = Err why
 
 unfoldable pub reading_in : ℕ → Form → List ℕ → Reading
 reading_in K f s = after_cards K f s (section_at f s 0)

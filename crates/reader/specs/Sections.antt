@@ -7,27 +7,27 @@
 --   from_count at x         a section whose count stands at `at`, with its places counted from there
 --   OwnBytes s a t b n     n bytes of s from a on are those of t from b on
 --   with_rows l n           the layout l with n claims in the place of its own
-use Rattle.std.specs.Prelude.{ℕ, zero, suc, ◌+◌, ◌-◌, ◌<◌, ◌≡◌, List, get_or}
-use Rattle.reader.specs.Reading.{section_at}
+use Rattle.std.specs.Prelude.{ℕ, zero, suc, ◌+◌, ◌-◌, ◌<◌, ◌≡◌, List, get_or, Result, Ok, Err}
+use Rattle.reader.specs.Reading.{read_section, section_at}
 use Rattle.claimfile.specs.declared.Form.{Form}
 use Rattle.claimfile.specs.declared.Layout.{Layout}
+use Rattle.reader.specs.declared.Refusal.{Refusal}
 use Rattle.reader.specs.declared.Section.{Section}
-use Rattle.reader.specs.declared.Section.TheVariants.{Read, Faulty}
 
-abbrev pub behind : Section → ℕ
-behind (Read count start next) = next
-behind (Faulty why) = 0
+abbrev pub behind : Result Section Refusal → ℕ
+behind (Ok read) = read.next
+behind (Err why) = 0
 
 abbrev pub place_on : Form → List ℕ → ℕ → ℕ
 place_on f s zero = 0
 place_on f s (suc side) = behind (section_at f s (place_on f s side))
 
-abbrev pub section_on : Form → List ℕ → ℕ → Section
+abbrev pub section_on : Form → List ℕ → ℕ → Result Section Refusal
 section_on f s side = section_at f s (place_on f s side)
 
-abbrev pub from_count : ℕ → Section → Section
-from_count at (Read count start next) = Read count (start - at) (next - at)
-from_count at (Faulty why) = Faulty why
+abbrev pub from_count : ℕ → Result Section Refusal → Result Section Refusal
+from_count at (Ok read) = Ok (read_section read.count (read.start - at) (read.next - at))
+from_count at (Err why) = Err why
 
 abbrev pub OwnBytes : List ℕ → ℕ → List ℕ → ℕ → ℕ → Type 0
 OwnBytes s a t b n = (i : ℕ) → i < n → get_or s (a + i) 0 ≡ get_or t (b + i) 0

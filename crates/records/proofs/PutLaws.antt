@@ -57,9 +57,9 @@ module _ (cards shops rows : ℕ) (t : List ℕ) (group : WeekGroup) (k : ℕ) (
   held-group :
       (side g : ℕ) → Holds t (group_place laid side g) (group_bytes group) → group_of t (on_day laid k) side g ≡ on_day_of group k
   held-group zero g held =
-      ap (λ x. group_at true x t 2 g) (column-in true 0 0 k refl day) ∙ group-back t 2 g group held k day
+      ap (λ x. group_at true x t 2 g) (column-in true k refl day) ∙ group-back t 2 g group held k day
   held-group (suc n) g held =
-      ap (λ x. group_at true x t (start_of laid 1) g) (column-in true 0 0 k refl day)
+      ap (λ x. group_at true x t (start_of laid 1) g) (column-in true k refl day)
       ∙ group-back t (start_of laid 1) g group held k day
 
 --------------------------------------------------------------------------------

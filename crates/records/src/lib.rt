@@ -14,7 +14,6 @@ ghost use Rattle.records.specs.Records.{parent_for, limit_for, LimitsTo, Numbere
 
 use claimfile::{DAYS, Layout, TOP, group_of, groups_on, on_day};
 use claimwriter::{group_put, put_group};
-use instance::{lesser, wide};
 use theory::MAX_GROUPS;
 
 // The parent of group `g` in the new numbers, by the one in its record: a group at the top stays there.
@@ -25,7 +24,7 @@ fn parent_for(g: usize, parent: usize, cells: &[u16; MAX_GROUPS]) -> usize
     if g <= parent {
         return TOP;
     }
-    wide(cells[parent])
+    usize::from(cells[parent])
 }
 
 // The limit of a day of a group with the parent `parent` in the new numbers, by the one in its record: no more than the limit that was
@@ -38,7 +37,7 @@ fn limit_for(new: Layout, day: usize, side: usize, parent: usize, limit: usize, 
         return limit;
     }
     let above = group_put(new, day, side, parent, out);
-    lesser(limit, above.limit)
+    limit.min(above.limit)
 }
 
 // The limits of group `g` in the canonical file, where `g` has a new number and the parent `parent` there, and the groups before it are
@@ -56,11 +55,9 @@ fn limits_for(
     ensures { LimitsTo file.now layout new side g parent out.now days result }
 {
     let mut limits = [0u16; DAYS];
-    let mut day = 0;
-    while day < DAYS {
+    for day in 0..DAYS {
         let group = group_of(file, on_day(layout, day), side, g);
         limits[day] = limit_for(new, day, side, parent, group.limit, out) as u16;
-        day += 1;
     }
     limits
 }
@@ -79,7 +76,7 @@ pub fn put_record(
     requires numbered { Numbered file.now layout new side cells.now }
     ensures { PutTo file.now layout side (g + 1) 0 out.old out.new }
 {
-    let number = wide(cells[g]);
+    let number = usize::from(cells[g]);
     if MAX_GROUPS <= number {
         return;
     }

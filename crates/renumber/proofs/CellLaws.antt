@@ -1,6 +1,5 @@
 -- Laws of the cells between rows, and of how many groups have a number then.
 --   way-parent way-top way-large   the cell of a group without a number
---   way-lower way-root     the same, by the parent in the group's record
 --   cell-number cell-way   the cell of a group before row k
 --   if-same if-other       a number where two numbers are the same, else 0
 --   before-bit next_bit    which groups come before one with the lowest row k, and which have a number after row k
@@ -12,7 +11,6 @@
 use mathlib.Core.Path.{◌≡◌, refl, sym, ◌∙◌}
 use mathlib.Core.Bool.{◌&&◌, ◌||◌}
 use mathlib.Core.Logic.{◌≢◌}
-use mathlib.Core.List.{List}
 use Prim.Native.Nat.{ℕ, zero, suc, ◌+◌, ◌≤◌, ◌<◌, zero-le}
 use native.Mathlib.Decide.{ℕ_discrete, dec_lt}
 use native.Mathlib.Omega.{arith}
@@ -22,12 +20,8 @@ use Rattle.theory.specs.Bounds.{max_groups}
 use Rattle.theory.specs.Sum.{pick, same}
 use Rattle.theory.proofs.SumLaws.{sum-cong, sum-zero, sum-add, sum-single, sum_bound, same_self, same-ne}
 use Rattle.theory.proofs.ForestLaws.{chain-in, chain-small}
-use Rattle.claimfile.specs.Day.{count_of, group_of}
 use Rattle.claimfile.specs.File.{top}
-use Rattle.claimfile.specs.declared.Layout.{Layout}
-use Rattle.sides.proofs.ParentLaws.{parent-lower, parent-root}
 use Rattle.renumber.specs.Side.{Side, up, lowest, used, bit, used_groups, before, number}
-use Rattle.renumber.specs.Canonical.{side_of}
 use Rattle.renumber.specs.Numbers.{way_from, given, cell_before, fresh}
 use Rattle.renumber.proofs.ChainLaws.{SoundSide, side-down}
 use Rattle.renumber.proofs.KeyLaws.{bit-small, bit-one, bit-zero}
@@ -56,17 +50,6 @@ module _ (d : Side) (g : ℕ) where
 
     pub cell-way : k ≤ lowest d g → cell_before d k g ≡ way_from d g
     cell-way h = rw (le-ltb _ _ h)
-
-module _ (s : List ℕ) (l : Layout) (side g u : ℕ) (e : u ≡ (group_of s l side g).parent) where
-  pub way-lower : g < count_of l side → u < g → max_groups + u ≡ way_from (side_of s l side) g
-  way-lower inside less =
-      let is = parent-lower (count_of l side) (group_of s l side g).parent g (omega arith) in
-      omega (arith, is, way-parent (side_of s l side) g (omega (arith, is)))
-
-  pub way-root : g ≤ u → top ≡ way_from (side_of s l side) g
-  way-root large =
-      let is = parent-root (count_of l side) (group_of s l side g).parent g (omega arith) in
-      sym (way-top (side_of s l side) g (omega (arith, is)))
 
 --------------------------------------------------------------------------------
 -- A lowest row m beside the row k

@@ -17,7 +17,6 @@ use native.Mathlib.Decide.{dec_lt}
 use native.Mathlib.Omega.{arith}
 use Rattle.claimfile.specs.declared.Form.{Form}
 use Rattle.claimfile.specs.declared.Layout.{Layout}
-use Rattle.reader.specs.declared.Reading.TheVariants.{Accepted}
 use Rattle.reader.specs.Reading.{reading}
 use Rattle.claimfile.specs.Day.{count_of, group_of, on_day, first_of, limit_of}
 use Rattle.claimfile.specs.Sound.{SmallerOrTop, Sound, NoneAbove}
@@ -29,6 +28,7 @@ use Rattle.renumber.specs.Canonical.{Renumbering, named, side_of, SameDay}
 use Rattle.renumber.proofs.ChainLaws.{SoundSide}
 use Rattle.renumber.proofs.MapLaws.{turned, renumbered-trans}
 use Rattle.renumber.proofs.SideLaws.{Lowered}
+use Rattle.std.specs.Prelude.{Ok}
 
 --------------------------------------------------------------------------------
 -- Another day
@@ -124,7 +124,7 @@ module _ (s : List ℕ) (l : Layout) where
       ]
 
   pub new-side-limit :
-      (f : Form) → f.stored ≡ false → reading f s ≡ Accepted l → (k side g : ℕ) → g < count_of l side →
+      (f : Form) → f.stored ≡ false → reading f s ≡ Ok l → (k side g : ℕ) → g < count_of l side →
       (side_of s l side).limit k g ≡ limit_in s (on_day l k) side g
   new-side-limit f new is k zero = own-limit s (on_day l k) (none-day s l k (new-below f s l is new)) 0
   new-side-limit f new is k (suc n) = own-limit s (on_day l k) (none-day s l k (new-below f s l is new)) (suc n)

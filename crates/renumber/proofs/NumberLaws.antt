@@ -1,22 +1,19 @@
 -- Laws of the table of a side as its rows are gone through.
 --   WaysTo ways-step ways-rowed    at the start: no group has a number
---   named-card named-shop  the group that a row names, by its record
 --   rowed-few              no more than 256 groups have a number
 --   rowed-walk rowed-free rowed-climbs     the walks of the next row
 --   rowed-next             the table after it
 --   rowed-as               the table, by an equal number of the row
 --   rowed-end              the table after the last row
-use mathlib.Core.Path.{◌≡◌, refl, sym, ap, ◌∙◌, subst}
-use mathlib.Core.Logic.{◌≢◌}
+use mathlib.Core.Path.{◌≡◌, sym, ap, ◌∙◌, subst}
 use mathlib.Core.List.{List}
-use Prim.Native.Nat.{ℕ, zero, suc, ◌+◌, ◌≤◌, ◌<◌, zero-le}
+use Prim.Native.Nat.{ℕ, ◌+◌, ◌≤◌, ◌<◌, zero-le}
 use native.Mathlib.Decide.{ℕ_discrete, dec_lt}
 use native.Mathlib.Omega.{arith}
 use lib.ListN.{length, set}
 use lib.Seq.{get_or-set_same, get_or-set_other}
 use Rattle.theory.specs.Bounds.{max_groups}
 use Rattle.theory.proofs.ForestLaws.{up-inside, up-own}
-use Rattle.claimfile.specs.Day.{named_card, named_shop}
 use Rattle.claimfile.specs.Sound.{Sound}
 use Rattle.claimfile.specs.declared.Layout.{Layout}
 use Rattle.claimfile.proofs.DayLaws.{side-most}
@@ -45,14 +42,6 @@ ways-step d t g w inside e to h m =
 pub ways-rowed : (d : Side) (t : List ℕ) → length t ≡ max_groups → WaysTo d t d.groups → Rowed d 0 t 0
 ways-rowed d t size ways =
     record { size = size; count = sym (given-start d); cells = λ g l. ways g l ∙ sym (cell-way d g 0 zero-le) }
-
-module _ (s : List ℕ) (l : Layout) where
-  pub named-card : (side c : ℕ) → side ≡ 0 → named s l side c ≡ named_card s l c
-  named-card side c e = rw e
-
-  pub named-shop : (side c : ℕ) → side ≢ 0 → named s l side c ≡ named_shop s l c
-  named-shop zero c n = absurd (n refl)
-  named-shop (suc side) c n = refl
 
 -- row k, which names g
 module _

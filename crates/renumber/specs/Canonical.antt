@@ -18,14 +18,12 @@
 -- lowered." A new file's limits are the written ones (`new-side-limit`, proofs/DayLaws.antt).
 -- E9: "The parent test and the lowering of E4 hold for each of the seven. The canonical form is in the week layout". The canonical writer
 -- names no day: a side has the limits of all days, whichever day the layout has (`side-day`, proofs/DayLaws.antt).
-use Rattle.std.specs.Prelude.{ℕ, zero, suc, ◌+◌, ◌≤◌, ◌<◌, ◌≡◌, List, [], ltb, get_or}
+use Rattle.std.specs.Prelude.{ℕ, zero, suc, ◌+◌, ◌≤◌, ◌<◌, ◌≡◌, List, [], ltb, get_or, Ok, Err}
 use Rattle.theory.specs.Sum.{pick}
 use Rattle.claimfile.specs.declared.Form.{Form}
 use Rattle.claimfile.specs.declared.Layout.{Layout}
-use Rattle.reader.specs.declared.Reading.{Reading}
-use Rattle.reader.specs.declared.Reading.TheVariants.{Accepted, Refused}
 use Rattle.claimfile.specs.File.{top, days}
-use Rattle.reader.specs.Reading.{reading}
+use Rattle.reader.specs.Reading.{reading, Reading}
 use Rattle.claimfile.specs.Day.{count_of, on_day, named_card, named_shop, kind_of, first_of, limit_of}
 use Rattle.claimwriter.specs.Written.{WeekGroup, week_group, Contents, file_bytes, layout_for}
 use Rattle.sides.specs.Side.{parent_in}
@@ -71,8 +69,8 @@ canonical_layout s l =
     layout_for (canonical_contents s l).cards (canonical_contents s l).shops (canonical_contents s l).rows
 
 abbrev pub canonical_by : List ℕ → Reading → List ℕ
-canonical_by s (Accepted l) = file_bytes (canonical_contents s l)
-canonical_by s (Refused why) = []
+canonical_by s (Ok l) = file_bytes (canonical_contents s l)
+canonical_by s (Err why) = []
 
 unfoldable pub canonical : Form → List ℕ → List ℕ
 canonical f s = canonical_by s (reading f s)

@@ -17,7 +17,6 @@ ghost use Rattle.renumber.specs.Canonical.{named, side_of};
 ghost use Rattle.renumber.specs.Numbers.{way_from, Rowed, Numbers, Unnumbered, Climbs, NumberedUp};
 
 use claimfile::{Layout, TOP, claim_of, group_of, groups_on};
-use instance::wide;
 use theory::MAX_GROUPS;
 
 // The cell of group `g` while it has no number.
@@ -38,11 +37,8 @@ fn put_ways(file: &[u8], layout: Layout, side: usize, cells: &mut [u16; MAX_GROU
     requires cells_len { length cells.old ≡ max_groups }
     ensures { Rowed (side_of file.now layout side) 0 cells.new 0 }
 {
-    let top = groups_on(layout, side);
-    let mut g = 0;
-    while g < top {
+    for g in 0..groups_on(layout, side) {
         cells[g] = way_from(file, layout, side, g);
-        g += 1;
     }
 }
 
@@ -63,7 +59,7 @@ fn unnumbered(cells: &[u16; MAX_GROUPS], g: usize, n: usize) -> usize
     requires { (g < max_groups) × (n + g < max_groups + max_groups) }
     ensures { Unnumbered cells.now g n result }
 {
-    let cell = wide(cells[g]);
+    let cell = usize::from(cells[g]);
     if cell < MAX_GROUPS {
         return n;
     }
@@ -79,7 +75,7 @@ fn number_up(cells: &mut [u16; MAX_GROUPS], g: usize, end: usize)
     requires { Climbs cells.old g end }
     ensures { NumberedUp cells.old cells.new g end }
 {
-    let cell = wide(cells[g]);
+    let cell = usize::from(cells[g]);
     if cell < MAX_GROUPS {
         return;
     }
@@ -117,12 +113,9 @@ fn number_rows(file: &[u8], layout: Layout, side: usize, cells: &mut [u16; MAX_G
     requires rowed { Rowed (side_of file.now layout side) 0 cells.old 0 }
     ensures { Numbers (side_of file.now layout side) cells.new result }
 {
-    let rows = layout.rows;
     let mut next = 0;
-    let mut c = 0;
-    while c < rows {
+    for c in 0..layout.rows {
         next = number_row(file, layout, side, c, next, cells);
-        c += 1;
     }
     next
 }

@@ -32,13 +32,10 @@ fn put_rows(file: &[u8], layout: Layout, at: usize, choice: &[u8], out: &mut [u8
     requires room { Room at (row_lines layout.rows (kind_of file.now layout) (row choice.now)) }
     ensures { Appended out.old out.new at result (row_lines layout.rows (kind_of file.now layout) (row choice.now)) }
 {
-    let rows = layout.rows;
     let mut next = at;
-    let mut c = 0;
-    while c < rows {
+    for c in 0..layout.rows {
         let claim = claim_of(file, layout, c);
         next = put_row(next, c, claim.kind, choice[c], out);
-        c += 1;
     }
     next
 }

@@ -5,7 +5,7 @@
 ghost use Rattle.std.specs.Prelude.{◌≡◌, ◌≤◌, length, take};
 
 use claimfile::Form;
-use reader::{Reading, read};
+use reader::read;
 use report::{write_closed, write_refused};
 use std::io;
 use text::put_word;
@@ -30,7 +30,7 @@ fn text_of(
             day: 0,
         },
     );
-    let Reading::Accepted(layout) = reading else {
+    let Ok(layout) = reading else {
         return 0;
     };
     if choice.len() < layout.rows {
@@ -92,20 +92,13 @@ fn refusals<P: Print>(output: &P) -> io::Result<()> {
     refused(output, 4294967295)
 }
 
-fn cell(s: &[u8], i: usize) -> u8 {
-    if i < s.len() {
-        return s[i];
-    }
-    0
-}
-
 // The buffer's length, the answer, and the cells at its start and at its end.
 fn told<P: Print>(output: &P, n: usize, out: &[u8]) -> io::Result<()> {
     let cells = out.len();
-    let first = cell(out, 0);
-    let at_75 = cell(out, 75);
-    let at_76 = cell(out, 76);
-    let at_77 = cell(out, 77);
+    let first = out.get(0).copied().unwrap_or(0);
+    let at_75 = out.get(75).copied().unwrap_or(0);
+    let at_76 = out.get(76).copied().unwrap_or(0);
+    let at_77 = out.get(77).copied().unwrap_or(0);
     println!(output;
         "cells {cells} written {n} first {first} at 75 {at_75} at 76 {at_76} at 77 {at_77}"
     )

@@ -1,51 +1,33 @@
 -- Laws of the item lists in the buffer.
---   hung-of hung-first     two stores put an item before the first one, or leave the first ones as they were
+--   hung-first             where the item is not listed, the first ones are as they were
 --   linked-still           other places left, where what was not listed is not to be
---   hung-only only-residual only-spare links-keep linkable-of    what linking leaves alone, and what leaves the lists alone
---   links-of link-none link-then    one after another
+--   hung-only only-residual only-spare links-keep    what linking leaves alone, and what leaves the lists alone
+--   links-of               the lists that stand after linking
 --   parent-node card-node shop-node    the nodes of a child and of a row
 --   hangs-even hangs-room      whether a child is listed
 --   child-linked row-linked    a child, and a row at both its nodes, or at none
---   emptied-none emptied-more emptied-linked    the lists are emptied
---   drop-put dropped-placed    a row leaves its lists
+--   dropped-placed         a row leaves its lists
 --   item-shop              a row that does not hang at its card node hangs at its shop node
 --   after-child after-card after-shop    the next item
-use mathlib.Core.Path.{◌≡◌, refl, sym, ap, subst, ◌∙◌}
-use mathlib.Core.Logic.{◌≢◌, inl, inr, ⊎_elim}
+use mathlib.Core.Path.{◌≡◌, refl, sym, ap, ◌∙◌}
+use mathlib.Core.Logic.{◌≢◌, inr, ⊎_elim}
 use mathlib.Core.Bool.{Bool, true, false, ◌&&◌}
 use mathlib.Core.List.{List}
 use Prim.Native.Nat.{ℕ, ◌+◌, ◌-◌, ◌≤◌, ◌<◌}
 use native.Mathlib.Omega.{arith}
 use lib.Dec.{eqb}
 use borrow.Author.Tests.{eqb-true, eqb-false}
-use Rattle.theory.specs.Sum.{pick}
-use Rattle.theory.specs.Formed.{Formed}
 use Rattle.theory.specs.Residual.{Residual, dues}
 use Rattle.theory.specs.Turn.{Puts}
 use Rattle.theory.proofs.ResidualLaws.{card-below, shop-below, parent-below, sides_apart}
 use Rattle.theory.proofs.TestLaws.{either, and-true, and-false}
 use Rattle.theory.proofs.TurnLaws.{puts-at}
 use Rattle.scratch.specs.declared.Shape.{Shape}
-use Rattle.scratch.specs.Map.{table, first_of, after_child_of, after_card_of, after_shop_of, card_of, shop_of, parent_of, price_of, weight_of, spare_of, spares, firsts, child_afters, card_afters, shop_afters, parents, Put, Keeps, OnlyLists}
+use Rattle.scratch.specs.Map.{first_of, after_child_of, after_card_of, after_shop_of, card_of, shop_of, parent_of, price_of, weight_of, spare_of, spares, firsts, child_afters, card_afters, shop_afters, parents, Keeps, OnlyLists}
 use Rattle.scratch.specs.View.{net_of, residual_of}
-use Rattle.residual.specs.Items.{Item, Unlisted, Least, Linked, Hangs, Links, Linkable, Hung, LinkOf, Emptied, Dropped, Placed}
-use Rattle.scratch.proofs.MapLaws.{keeps-none, keeps_then, put_keeps, room-keeps, residual-same}
-use Rattle.residual.proofs.ListLaws.{child-of, row_of, linked-none, linked-more, child-even, link-child, link-unlisted, link_row, drop-row}
-
-pub hung-of :
-    {sh : Shape} {t m t' : List ℕ} {k i u j x y : ℕ} {b : Bool} → (firsts ≡ k → ⊥) → x ≡ first_of sh t u → y ≡ pick b j x →
-    Put sh t m k i x → Put sh m t' firsts u y → Hung sh t t' k i u j b
-hung-of {sh} {t} {m} {t'} {k} {u = u} {j} {y = y} {b} n e p A B =
-    let a : first_of sh m ≡ first_of sh t = A.rest firsts n in
-    let c : table sh t' k ≡ table sh m k = B.rest k (λ z. n (sym z)) in
-    record {
-      long = B.long ∙ A.long;
-      after = rw (c, ← e) A.puts;
-      first =
-          subst (Puts (first_of sh t) (first_of sh t') u) (p ∙ ap (pick b j) e)
-          (subst (λ (f : ℕ → ℕ). Puts f (first_of sh t') u y) a B.puts);
-      rest = λ l p q. B.rest l q ∙ A.rest l p;
-    }
+use Rattle.residual.specs.Items.{Item, Unlisted, Least, Linked, Hangs, Links, Linkable, Hung, LinkOf, Dropped, Placed}
+use Rattle.scratch.proofs.MapLaws.{keeps_then, residual-same}
+use Rattle.residual.proofs.ListLaws.{child-of, row_of, linked-more, child-even, link-child, link-unlisted, link_row, drop-row}
 
 pub hung-only :
     {sh : Shape} {t t' : List ℕ} {k i u j : ℕ} {b : Bool} → firsts < k → k < parents → Hung sh t t' k i u j b → OnlyLists sh t t'
@@ -100,27 +82,8 @@ module _ {sh : Shape} (sheet : List ℕ) {t t' : List ℕ} where
       )
       (linked-as (residual-same sheet (λ k l. n k (omega arith)) A) (A.rest spares (n spares (omega arith))) L)
 
-  pub linkable-of : OnlyLists sh t t' → Linkable sh sheet t → Linkable sh sheet t'
-  linkable-of A R = record {
-    room = room-keeps A.long R.room;
-    sheets = R.sheets;
-    formed = subst (λ (r : Residual). Formed r.net) (sym (only-residual A)) R.formed;
-    small = R.small;
-    small_toll = R.small_toll;
-  }
-
 pub links-of : {sh : Shape} {sheet t t' : List ℕ} {lo : ℕ} → LinkOf sh sheet t t' lo → Links sh sheet t' lo
 links-of {sheet = sheet} L = linked-as (only-residual sheet L.only) (only-spare L.only) L.linked
-
-pub link-none : {sh : Shape} {sheet t : List ℕ} {lo : ℕ} → Links sh sheet t lo → LinkOf sh sheet t t lo
-link-none L = record { only = keeps-none; linked = L }
-
-pub link-then :
-    {sh : Shape} {sheet t t' t'' : List ℕ} {lo lo' : ℕ} → LinkOf sh sheet t t' lo → LinkOf sh sheet t' t'' lo' → LinkOf sh sheet t t'' lo'
-link-then {sheet = sheet} A B = record {
-  only = keeps_then A.only B.only;
-  linked = linked-as (sym (only-residual sheet A.only)) (sym (only-spare A.only)) B.linked;
-}
 
 module _ {sh : Shape} {sheet t : List ℕ} (R : Linkable sh sheet t) where
   abbrev Res : Residual
@@ -257,38 +220,8 @@ module _ {sh : Shape} {sheet t : List ℕ} (R : Linkable sh sheet t) where
 --------------------------------------------------------------------------------
 -- Empty lists
 
-pub emptied-none : {sh : Shape} {t : List ℕ} → Emptied sh t t 0
-emptied-none = record { only = keeps-none; none = λ u l. absurd (omega arith) }
-
-pub emptied-more :
-    {sh : Shape} {t t' t'' : List ℕ} {u : ℕ} → Emptied sh t t' u → Put sh t' t'' firsts u (sh.rows + sh.groups) →
-    Emptied sh t t'' (u + 1)
-emptied-more E P = record {
-  only = keeps_then E.only (put_keeps (omega arith, omega arith) P);
-  none = λ v h. ⊎_elim (λ w. w.1) (λ w. w.1 ∙ E.none v (omega (arith, w.0))) (puts-at P.puts v);
-}
-
-pub emptied-linked :
-    {sh : Shape} (sheet : List ℕ) {t t' : List ℕ} → Emptied sh t t' (sh.groups + 2) → LinkOf sh sheet t t' (sh.rows + sh.groups)
-emptied-linked {sh} sheet {t} {t'} E = record {
-  only = E.only;
-  linked = linked-none (residual_of sh sheet t) (first_of sh t') (after_child_of sh t') (after_card_of sh t') (after_shop_of sh t') E.none;
-}
-
 --------------------------------------------------------------------------------
 -- One node of a row that leaves its lists
-
-pub drop-put :
-    {sh : Shape} {t t' : List ℕ} {u c x y w : ℕ} → y ≡ first_of sh t u → w ≡ pick (eqb y c) x y → Put sh t t' firsts u w →
-    Dropped sh t t' u c x
-drop-put {sh} {t} {t'} {u} {c} {x} {y} {w} e p P = record {
-  only = put_keeps refl P;
-  here = ⊎_elim
-      (λ i. inl (sym e ∙ eqb-true y c i, P.puts.here ∙ p ∙ ap (λ (b : Bool). pick b x y) i))
-      (λ i. inr (λ z. eqb-false y c i (e ∙ z), P.puts.here ∙ p ∙ ap (λ (b : Bool). pick b x y) i ∙ e))
-      (either (eqb y c));
-  else = P.puts.else;
-}
 
 --------------------------------------------------------------------------------
 -- Item j at node u, and the item after it

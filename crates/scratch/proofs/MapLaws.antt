@@ -6,12 +6,10 @@
 --   place-apart place-low    what lies at one place is one cell of one table, or the two halves of a cell; every cell lies below the end of
 --                            the map
 --   table_at table-out       a table inside its width and outside
---   table-low price-low      what is below a bound in every cell of a slice is below it in every table, and in every price
 --   half-small               a table of halves holds numbers below 2 ^ 16, whatever the slice holds
 --   put-set put-at           a store into a cell of the map changes that cell alone
---   price-at price-out put-price put-kept    the same for prices and for the choice
+--   price-at price-out put-price    the same for prices
 --   keeps-none keeps_then keeps-more put_keeps room-keeps    what stays as it was
---   table-small              what the cells' width says
 --   network-same residual-same    buffers that agree in the given tables hold the same network
 use mathlib.Core.Path.{◌≡◌, refl, sym, ap, subst, fun_ext, ◌∙◌}
 use mathlib.Core.Logic.{◌⊎◌, inl, inr}
@@ -23,12 +21,11 @@ use native.Mathlib.Omega.{arith}
 use lib.ListN.{length, get_or, set, length-set}
 use lib.Seq.{get_or-set_same, get_or-set_other}
 use borrow.Author.Tests.{lt-ltb, le-ltb}
-use Rattle.theory.specs.Bounds.{cell_bound}
 use Rattle.scratch.specs.declared.Shape.{Shape}
 use Rattle.scratch.specs.Map.{span, arc_in, widths, width, part, place, half, part_of, with_part, bound, cells, cell_at, table, price_at, price_of}
-use Rattle.scratch.specs.Map.{parents, card_nodes, shop_nodes, weights, Room, Put, Keeps, PutPrice, PutKept}
+use Rattle.scratch.specs.Map.{parents, card_nodes, shop_nodes, weights, Room, Put, Keeps, PutPrice}
 use Rattle.scratch.specs.View.{net_of, residual_of}
-use Rattle.scratch.proofs.PartLaws.{Beside, part-here, part-beside, part_small, half-part}
+use Rattle.scratch.proofs.PartLaws.{Beside, part-here, part-beside, half-part}
 
 --------------------------------------------------------------------------------
 -- Where the cells lie
@@ -214,13 +211,6 @@ pub table-out : (sh : Shape) (t : List ℕ) (k i : ℕ) → width sh k ≤ i →
 unfolding cell_at
 table-out sh t k i a = simp (le-ltb i (width sh k) a)
 
-pub table-low : (sh : Shape) (t : List ℕ) (k i m : ℕ) → ((j : ℕ) → get_or t j 0 < m) → table sh t k i < m
-table-low sh t k i m low =
-    elim (dec_lt i (width sh k)) [
-      | yes h ↦ omega (arith, table_at sh t k i h, part_small (part k) (get_or t (place sh k i) 0) m (low (place sh k i)))
-      | no h ↦ omega (arith, table-out sh t k i (omega arith), low 0)
-    ]
-
 pub half-small : (sh : Shape) (t : List ℕ) (k i : ℕ) → 0 < part k → table sh t k i < half
 half-small sh t k i l =
     elim (dec_lt i (width sh k)) [
@@ -296,13 +286,6 @@ pub price-out : (sh : Shape) (sheet : List ℕ) (v : ℕ) → sh.groups ≤ v �
 unfolding price_at
 price-out sh sheet v l = simp (le-ltb v sh.groups l)
 
-pub price-low : (sh : Shape) (sheet : List ℕ) (v m : ℕ) → ((j : ℕ) → get_or sheet j 0 < m) → price_of sh sheet v < m
-price-low sh sheet v m low =
-    elim (dec_lt v sh.groups) [
-      | yes h ↦ omega (arith, price-at sh sheet v h, low v)
-      | no h ↦ omega (arith, price-out sh sheet v (omega arith), low 0)
-    ]
-
 pub put-price : (sh : Shape) (sheet : List ℕ) (v x : ℕ) → v < sh.groups → sh.groups ≤ length sheet → PutPrice sh sheet (set sheet v x) v x
 put-price sh sheet v x l m = record {
   long = length-set sheet v x;
@@ -314,12 +297,6 @@ put-price sh sheet v x l m = record {
           | no h ↦ price-out sh (set sheet v x) j (omega arith) ∙ sym (price-out sh sheet j (omega arith))
         ];
   };
-}
-
-pub put-kept : (ch : List ℕ) (c x : ℕ) → c < length ch → PutKept ch (set ch c x) c x
-put-kept ch c x l = record {
-  long = length-set ch c x;
-  puts = record { here = get_or-set_same ch c x 0 l; else = λ j n. get_or-set_other ch c j x 0 n };
 }
 
 --------------------------------------------------------------------------------
@@ -339,11 +316,6 @@ put_keeps p A = record { long = A.long; rest = λ l n. A.rest l (λ e. n (rw e p
 
 pub room-keeps : {sh : Shape} {t t' : List ℕ} → length t' ≡ length t → Room sh t → Room sh t'
 room-keeps e R = record { few = R.few; size = omega (arith, R.size) }
-
--- cells of 32 bits
-pub table-small :
-    (sh : Shape) (t : List ℕ) (k i : ℕ) → ((j : ℕ) → get_or t j 0 < cell_bound) → table sh t k i < cell_bound
-table-small sh t k i h = table-low sh t k i cell_bound h
 
 --------------------------------------------------------------------------------
 -- The network of the tables that are given

@@ -1,32 +1,13 @@
 -- Laws of the parts of a cell: the whole, the low half and the high half.
---   part-high with-high bound-half bound-cell half-fits    the definitions, for a part that is known by what it is not
+--   half-fits                what is below 2 ^ 16 fits every part
 --   part-here                a part after a store into it
 --   Beside p q, part-beside  p and q are the two halves, and a store into the one leaves the other
 --   part_small half-part     a part is no greater than the cell, and a half is below 2 ^ 16
 use mathlib.Core.Path.{◌≡◌, refl}
 use mathlib.Core.Logic.{◌≢◌}
-use Prim.Native.Nat.{ℕ, zero, suc, ◌+◌, ◌*◌, ◌/◌, ◌%◌, ◌≤◌, ◌<◌}
+use Prim.Native.Nat.{ℕ, zero, suc, ◌≤◌, ◌<◌}
 use native.Mathlib.Omega.{arith}
-use Rattle.theory.specs.Bounds.{cell_bound}
 use Rattle.scratch.specs.Map.{half, part_of, with_part, bound}
-
-pub part-high : (p x : ℕ) → p ≢ 0 → p ≢ 1 → part_of p x ≡ x / half % half
-part-high zero x n m = absurd (n refl)
-part-high (suc zero) x n m = absurd (m refl)
-part-high (suc (suc p)) x n m = refl
-
-pub with-high : (p x y : ℕ) → p ≢ 0 → p ≢ 1 → with_part p x y ≡ x % half + y * half
-with-high zero x y n m = absurd (n refl)
-with-high (suc zero) x y n m = absurd (m refl)
-with-high (suc (suc p)) x y n m = refl
-
-pub bound-half : (p : ℕ) → p ≢ 0 → bound p ≡ half
-bound-half zero n = absurd (n refl)
-bound-half (suc p) n = refl
-
-pub bound-cell : (p x : ℕ) → x < bound p → x < cell_bound
-bound-cell zero x l = l
-bound-cell (suc p) x l = omega arith
 
 pub half-fits : (p x : ℕ) → x < half → x < bound p
 half-fits zero x l = omega arith

@@ -3,3 +3,4 @@ pub mod Clear
 pub mod Memory
 pub mod Map
 pub mod View
+pub mod Tables

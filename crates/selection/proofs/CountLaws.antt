@@ -1,5 +1,6 @@
 -- Laws of counting the kept rows.
 --   count_none count_next count_most   the numbers below n that pass a test: none, one number more, at most n
+--   byte-pick                      a test as a number
 --   counted_none                   no row is counted
 --   counted-out counted-in         one row more: it is left out, or kept
 --   kept-rows-size kept-of-kept    in a selection of bits the kept rows are its size, and those of a kind theory's `kept`
@@ -11,6 +12,7 @@ use Prim.Native.Nat.{ℕ, ◌+◌, ◌*◌, ◌≤◌}
 use native.Mathlib.Decide.{ℕ_discrete}
 use native.Mathlib.Omega.{arith}
 use lib.Dec.{eqb}
+use mir.Val.{bool_byte}
 use borrow.Author.Tests.{eq-eqb, ne_eqb}
 use Rattle.theory.specs.Sum.{pick, sum, same}
 use Rattle.theory.specs.Incidence.{Selection, size}
@@ -40,6 +42,11 @@ one-most false = omega arith
 pub count_most : (n : ℕ) (test : ℕ → Bool) → count n test ≤ n
 unfolding count
 count_most n test = omega (arith, sum_bound n 1 {f = λ c. pick (test c) 1 0} (λ c l. one-most (test c)))
+
+-- a test as a number is 1 where it holds, else 0
+pub byte-pick : (b : Bool) → bool_byte b ≡ pick b 1 0
+byte-pick true = refl
+byte-pick false = refl
 
 --------------------------------------------------------------------------------
 -- Row by row

@@ -1,15 +1,18 @@
 -- Laws of a selection given as bytes.
---   bits_are are-bits bits-not     whether its first n bytes are 0 or 1
+--   bits_are are-bits bits-by      whether its first n bytes are 0 or 1
 use mathlib.Core.Path.{◌≡◌}
 use mathlib.Core.List.{List}
-use mathlib.Core.Bool.{true, false}
-use mathlib.Core.Logic.{inl, inr}
+use mathlib.Core.Bool.{Bool, true}
 use Prim.Native.Nat.{ℕ, ◌≤◌, ◌<◌}
 use native.Mathlib.Omega.{arith}
 use lib.Dec.{leb}
+use lib.ListN.{length, take}
+use lib.Seq.{get_or-take, length-take-le}
+use Rattle.std.specs.Prelude.{◌↔◌, IsTrue, EachIndex, slice_index}
+use Rattle.std.specs.Bool.{one_answer}
 use borrow.Author.Tests.{le-leb, leb-true}
 use Rattle.theory.specs.Matroid.{row}
-use Rattle.theory.proofs.TestLaws.{either, every_true, true-every}
+use Rattle.theory.proofs.TestLaws.{every_true, true-every}
 use Rattle.selection.specs.Selection.{bits}
 
 module _ (n : ℕ) (sel : List ℕ) where
@@ -21,9 +24,13 @@ module _ (n : ℕ) (sel : List ℕ) where
   unfolding bits
   are-bits e c l = leb-true (row sel c) 1 (every_true n (λ i. leb (row sel i) 1) e c l)
 
-  pub bits-not : (c : ℕ) → c < n → 1 < row sel c → bits n sel ≡ false
-  bits-not c l h =
-      elim (either (bits n sel)) [
-        | inl e ↦ absurd (omega (arith, are-bits e c l))
-        | inr e ↦ e
-      ]
+  -- what is true where each of the first n bytes is 0 or 1, and only there, tells just that
+  pub bits-by :
+      n ≤ length sel → (t : Bool) → (IsTrue t ↔ EachIndex (take n sel) (λ c. slice_index (take n sel) c ≤ 1)) → t ≡ bits n sel
+  bits-by long t is =
+      one_answer t (bits n sel) is (
+        (λ e c l.
+            let below : c < n = omega (arith, length-take-le n sel long) in
+            rw get_or-take (are-bits e c below)),
+        (λ each. bits_are (λ c l. rw (← get_or-take n sel c 0 l) (each c (omega (arith, length-take-le n sel long))))),
+      )

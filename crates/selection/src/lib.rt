@@ -27,24 +27,7 @@ pub fn all_bits(selection: &[u8], rows: usize) -> bool
     requires { rows ≤ length selection.now }
     ensures { result ≡ bits rows selection.now }
 {
-    let mut c = 0;
-    while c < rows {
-        if 1 < selection[c] {
-            return false;
-        }
-        c += 1;
-    }
-    true
-}
-
-// 1 where a test holds, else 0.
-fn one(when: bool) -> usize
-    ensures { (result ≡ pick when 1 0) × (result ≤ 1) }
-{
-    if when {
-        return 1;
-    }
-    0
+    selection[..rows].iter().all(|b| *b <= 1)
 }
 
 // The counts with row `c`.
@@ -64,7 +47,7 @@ fn count_row(
     }
     let claim = claim_of(file, layout, c);
     Counts {
-        matched: counts.matched + one(claim.kind == kind),
+        matched: counts.matched + usize::from(claim.kind == kind),
         kept: counts.kept + 1,
     }
 }
@@ -74,15 +57,12 @@ pub fn count_rows(file: &[u8], layout: Layout, kind: u8, selection: &[u8]) -> Co
     requires { Covers file.now layout selection.now }
     ensures { Counted file.now layout kind layout.rows selection.now result }
 {
-    let rows = layout.rows;
     let mut counts = Counts {
         matched: 0,
         kept: 0,
     };
-    let mut c = 0;
-    while c < rows {
+    for c in 0..layout.rows {
         counts = count_row(file, layout, kind, c, counts, selection);
-        c += 1;
     }
     counts
 }

@@ -11,7 +11,6 @@ ghost use Rattle.instance.specs.Meaning.{nodes};
 ghost use Rattle.sheets.specs.Sheet.{covers, covered};
 ghost use Rattle.sheets.specs.Judge.{Sheeted, Zeros, Priced};
 
-use super::{cell, long, wide};
 use claimfile::{Layout, claim_of};
 use instance::{card_node, node_at, power, shop_node};
 
@@ -22,10 +21,7 @@ const PRICE: u64 = 65535;
 fn capped(price: u64) -> u16
     ensures { result ≡ min price max_limit }
 {
-    if PRICE < price {
-        return PRICE as u16;
-    }
-    price as u16
+    price.min(PRICE) as u16
 }
 
 // The price of group `v`, when those of the groups before it are there: its mark and the price above it.
@@ -35,7 +31,7 @@ fn price_group(file: &[u8], layout: Layout, v: usize, sheet: &[u32], prices: &mu
 {
     let group = node_at(file, layout, v);
     let up = group.parent;
-    prices[v] = capped(wide(sheet[v]) + cell(prices[up]));
+    prices[v] = capped(u64::from(sheet[v]) + u64::from(prices[up]));
 }
 
 // The price of each group.
@@ -44,10 +40,8 @@ fn price_groups(file: &[u8], layout: Layout, sheet: &[u32], prices: &mut [u16])
     ensures { Priced file.now layout sheet.now prices.new (groups_of layout) }
 {
     let groups = layout.cards + layout.shops;
-    let mut v = 0;
-    while v < groups {
+    for v in 0..groups {
         price_group(file, layout, v, sheet, prices);
-        v += 1;
     }
 }
 
@@ -56,7 +50,7 @@ fn price_of(card: usize, shop: usize, prices: &[u16]) -> u64
     requires { (card < length prices.now) × (shop < length prices.now) }
     ensures { (result ≡ row prices.now card + row prices.now shop) × (result ≤ 2 * max_limit) }
 {
-    cell(prices[card]) + cell(prices[shop])
+    u64::from(prices[card]) + u64::from(prices[shop])
 }
 
 // Whether the sheet covers row `c`: its own mark and the marks of all groups that it counts in come to its weight.
@@ -70,7 +64,8 @@ fn covers_row(file: &[u8], layout: Layout, c: usize, sheet: &[u32], prices: &[u1
     let shop = shop_node(layout, claim);
     let price = price_of(card, shop, prices);
     let own = groups + c;
-    long(power(layout.rows, claim.kind)) <= wide(sheet[own]) + price
+    // stays: the new form is no plainer: as in Rust, the library has no `From` from usize to u64, and no bit is lost here.
+    power(layout.rows, claim.kind) as u64 <= u64::from(sheet[own]) + price
 }
 
 // Whether it covers every row.
@@ -78,13 +73,10 @@ fn covers_all(file: &[u8], layout: Layout, sheet: &[u32], prices: &[u16]) -> boo
     requires { (Sheeted file.now layout sheet.now) × (Priced file.now layout sheet.now prices.now (groups_of layout)) }
     ensures { result ≡ covered (instance_of file.now layout) sheet.now }
 {
-    let rows = layout.rows;
-    let mut c = 0;
-    while c < rows {
+    for c in 0..layout.rows {
         if !covers_row(file, layout, c, sheet, prices) {
             return false;
         }
-        c += 1;
     }
     true
 }

@@ -6,25 +6,3 @@
 
 pub mod cover;
 pub mod total;
-
-ghost use Rattle.std.specs.Prelude.{◌≡◌, ◌<◌, ◌≤◌};
-ghost use Rattle.theory.specs.Bounds.{max_limit, cell_bound};
-
-// A mark, a size and a cell of the table as numbers of 64 bits.
-pub fn wide(x: u32) -> u64
-    ensures { (result ≡ x) × (result < cell_bound) }
-{
-    x as u64
-}
-
-pub fn long(x: usize) -> u64
-    ensures { result ≡ x }
-{
-    x as u64
-}
-
-pub fn cell(x: u16) -> u64
-    ensures { (result ≡ x) × (result ≤ max_limit) }
-{
-    x as u64
-}

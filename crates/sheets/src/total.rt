@@ -13,7 +13,6 @@ ghost use Rattle.instance.specs.Meaning.{nodes};
 ghost use Rattle.sheets.specs.Sheet.{sheet_total};
 ghost use Rattle.sheets.specs.Judge.{most_product, Sheeted, Lowers, group_total, row_total};
 
-use super::{cell, long, wide};
 use claimfile::Layout;
 use instance::{lesser, node_at};
 
@@ -25,7 +24,7 @@ fn lower(groups: usize, up: usize, written: usize, limits: &[u16]) -> usize
     if groups <= up {
         return written;
     }
-    lesser(written, cell(limits[up]) as usize)
+    lesser(written, usize::from(limits[up]))
 }
 
 // The limit of group `v`, when those of the groups before it are there.
@@ -41,7 +40,8 @@ fn lower_group(file: &[u8], layout: Layout, v: usize, limits: &mut [u16]) -> u64
         limits,
     );
     limits[v] = limit as u16;
-    long(limit)
+    // stays: the new form is no plainer: as in Rust, the library has no `From` from usize to u64, and no bit is lost here.
+    limit as u64
 }
 
 // A group's limit × its mark.
@@ -59,11 +59,9 @@ fn total_groups(file: &[u8], layout: Layout, sheet: &[u32], limits: &mut [u16]) 
 {
     let groups = layout.cards + layout.shops;
     let mut total = 0;
-    let mut v = 0;
-    while v < groups {
+    for v in 0..groups {
         let limit = lower_group(file, layout, v, limits);
-        total += times(limit, wide(sheet[v]));
-        v += 1;
+        total += times(limit, u64::from(sheet[v]));
     }
     total
 }
@@ -74,10 +72,8 @@ fn total_rows(groups: usize, rows: usize, sheet: &[u32]) -> u64
     ensures { (result ≡ row_total sheet.now groups rows) × (result ≤ cell_bound * rows) }
 {
     let mut total = 0;
-    let mut c = 0;
-    while c < rows {
-        total += wide(sheet[groups + c]);
-        c += 1;
+    for c in 0..rows {
+        total += u64::from(sheet[groups + c]);
     }
     total
 }

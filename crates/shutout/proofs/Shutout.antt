@@ -21,11 +21,9 @@ use Rattle.theory.specs.Matroid.{row}
 use Rattle.theory.specs.Network.{Instance}
 use Rattle.theory.proofs.SumLaws.{sum-cong, sum-zero}
 use Rattle.claimfile.specs.declared.Layout.{Layout}
-use Rattle.reader.specs.declared.Reading.{Reading}
-use Rattle.reader.specs.declared.Reading.TheVariants.{Accepted, Refused}
 use Rattle.reader.specs.declared.Refusal.TheVariants.{CutOff}
 use Rattle.claimfile.specs.File.{new_old}
-use Rattle.reader.specs.Reading.{none_above, group_fault, claim_fault, records_from, count_fault, section_at, claims_at}
+use Rattle.reader.specs.Reading.{none_above, group_fault, claim_fault, records_from, count_fault, section_at, claims_at, Reading}
 use Rattle.reader.specs.Reading.{reading_in, reading}
 use Rattle.claimfile.specs.Day.{instance_of}
 use Rattle.reader.proofs.AcceptedLaws.{accepted-sound, accepted-kinds}
@@ -38,6 +36,7 @@ use Rattle.days.specs.Days.{Day, day_of}
 use Rattle.days.specs.Worked.{Outcome, settled, after_reading, worked, stated}
 use Rattle.days.specs.Worked.Outcome.{refused, closed}
 use Rattle.days.proofs.DaysLaws.{days-hold}
+use Rattle.std.specs.Prelude.{Ok, Err}
 
 pub record AsStated (d : Day) (n : ℕ) (ch : List ℕ) (a : Totals) : Type 0 where
   pub choice : (c : ℕ) → c < n → row ch c ≡ row d.settle.choice c
@@ -57,11 +56,11 @@ kept_in (refused why) = 0
 kept_in (closed c ok qs) = c.kept
 
 abbrev rows_in : Reading → ℕ
-rows_in (Refused why) = 0
-rows_in (Accepted l) = l.rows
+rows_in (Err why) = 0
+rows_in (Ok l) = l.rows
 
 module _
-    (d : Day) (held : worked d ≡ stated d) (l : Layout) (is : reading d.form d.file ≡ Accepted l)
+    (d : Day) (held : worked d ≡ stated d) (l : Layout) (is : reading d.form d.file ≡ Ok l)
     (ch sheet t ch' sheet' t' : List ℕ) (a : Totals) (C : Closes (instance_of d.file l) ch sheet t ch' sheet' t' a)
   where
     on : settled (instance_of d.file l) d ≡ stated d
@@ -95,7 +94,7 @@ zero-total i ch sheet t ch' sheet' t' a C zero =
 -- Day A
 
 module _
-    (l : Layout) (is : reading (new_old 0) (day_of 0).file ≡ Accepted l) (ch sheet t ch' sheet' t' : List ℕ) (a : Totals)
+    (l : Layout) (is : reading (new_old 0) (day_of 0).file ≡ Ok l) (ch sheet t ch' sheet' t' : List ℕ) (a : Totals)
     (C : Closes (instance_of (day_of 0).file l) ch sheet t ch' sheet' t' a)
   where
     stated-a : AsStated (day_of 0) l.rows ch' a
@@ -139,7 +138,7 @@ module _
 -- Day A with all rows ordinary
 
 module _
-    (l : Layout) (is : reading (new_old 0) (day_of 6).file ≡ Accepted l) (ch sheet t ch' sheet' t' : List ℕ) (a : Totals)
+    (l : Layout) (is : reading (new_old 0) (day_of 6).file ≡ Ok l) (ch sheet t ch' sheet' t' : List ℕ) (a : Totals)
     (C : Closes (instance_of (day_of 6).file l) ch sheet t ch' sheet' t' a)
   where
     stated-o : AsStated (day_of 6) l.rows ch' a

@@ -2,9 +2,9 @@
 --   moved                      the counts after one cell has grown
 --   zero-cell zeros            a table of zeros, and the counts at the start
 --   Counting                   after c rows each group counts the selected ones of them that hang at it
---   counting-start counting-small counting-step counting-end   at the start, at the next row, and with all rows
+--   counting-start counting-small counting-step    at the start, and at the next row
 --   counted-begun              the selected rows of a file, counted where they hang
---   passing-small passed_on    what came to one group is passed on
+--   passed_on                  what came to one group is passed on
 --   Rising                     after the groups from g on have passed on what came to them
 --   rising-start rising_step rising-end    at the start, at the next group, and with all groups
 --   rising-passes              the next group can pass on what came to it
@@ -95,12 +95,6 @@ module _ (s sel : List ℕ) (l : Layout) (side : ℕ) where
                 ∙ omega (arith, w.counts h, own-next c (hangs s l side) (row sel) h);
           }
 
-    -- all rows
-    pub counting-end : (c : ℕ) → l.rows ≤ c → Counting k c → Counted s sel l side k
-    counting-end c m w =
-        let all : c ≡ l.rows = omega (arith, w.upto) in
-        record { long = w.long; counts = λ h. w.counts h ∙ ap (λ n. own n (hangs s l side) (row sel) h) all }
-
     module _ (ready : Ready s sel l) (w : Counted s sel l side k) where
       counted-named : Named s l side (row sel) k
       counted-named = record { bits = ready.bits; counts = w.counts }
@@ -133,9 +127,6 @@ module _
           | inl d ↦ omega (arith, w.inside, w.held.long)
           | inr d ↦ omega (arith, w.held.long)
         ]
-
-    pub passing-small : row k u + row k g < 65536
-    passing-small = rw is w.small
 
     pub passed_on :
         (x limit : ℕ) (r : Bool) → limit ≡ limit_in s l side g → x ≡ min (row k g) limit → r ≡ leb (row k g) limit →

@@ -2,7 +2,6 @@
 --   parent-lower parent-root   the parent by the number in a group's record
 --   parent_above               it is the node above the group, among the groups of its own side
 --   side-rooted side-down      a side's parents make a forest
---   side-above                 a parent is a group of the side, or its top
 use mathlib.Core.Path.{◌≡◌, sym, ap}
 use mathlib.Core.List.{List}
 use mathlib.Core.Logic.{inl, inr}
@@ -43,9 +42,6 @@ module _ (s : List ℕ) (l : Layout) (side : ℕ) where
         | yes h ↦ inl (omega (arith, parent_is v h))
         | no h ↦ inr (parent-top v (omega arith))
       ]
-
-  pub side-above : (v : ℕ) → v < count_of l side → parent_in s l side v ≤ count_of l side
-  side-above v m = elim (side-rooted v m) [ inl h ↦ omega arith | inr h ↦ omega arith ]
 
   pub side-down : Down (count_of l side) (parent_in s l side)
   side-down = rooted-down (count_of l side) (parent_in s l side) side-rooted

@@ -31,13 +31,13 @@ use Rattle.reader.specs.Reading.{reading}
 use Rattle.claimfile.specs.declared.Form.{Form}
 use Rattle.claimfile.specs.declared.Layout.{Layout}
 use Rattle.claimfile.specs.declared.Claim.{Claim}
-use Rattle.reader.specs.declared.Reading.TheVariants.{Accepted}
 use Rattle.reader.proofs.AcceptedLaws.{accepted-sound}
 use Rattle.claimfile.proofs.DayLaws.{side-room, root-past, parent-on, written_on, card-ordinary, card-earned, card-node, shop-node}
 use Rattle.claimfile.proofs.DayLaws.{sound-formed}
 use Rattle.reader.proofs.StoredLaws.{stored-fits, fits-stored, stored-rank}
 use Rattle.sides.specs.Side.{parent_in, limit_in, hangs, counts_in, FitsBy, FitsIn}
 use Rattle.sides.proofs.ParentLaws.{parent_above, side-rooted, side-down}
+use Rattle.std.specs.Prelude.{Ok}
 
 -- a row of a file with its claim
 module _ (s : List ℕ) (l : Layout) (c : ℕ) (claim : Claim) (is : claim ≡ claim_of s l c) where
@@ -178,6 +178,6 @@ module _ (s : List ℕ) (l : Layout) (sound : Sound s l) where
 
 -- demand 2: the lists of rows that fit a side of an accepted file are the independent sets of a matroid
 pub file-matroid :
-    (f : Form) (s : List ℕ) (l : Layout) → reading f s ≡ Accepted l → (side : ℕ) →
+    (f : Form) (s : List ℕ) (l : Layout) → reading f s ≡ Ok l → (side : ℕ) →
     Matroid l.rows (Independent (network_of s l) (limit_of s l) side)
 file-matroid f s l e = sound-matroid s l (accepted-sound f s l e)

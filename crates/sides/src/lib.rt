@@ -18,7 +18,7 @@ ghost use Rattle.sides.specs.Side.{hangs, Zero, Counted, Passes, PassedOn, Begun
 ghost use Rattle.sides.specs.Found.{Finds};
 
 use claimfile::{Layout, claim_of, group_of, groups_on};
-use instance::{above, card_node, wide};
+use instance::{above, card_node};
 use theory::MAX_GROUPS;
 
 // The counts of a side: one for each of its groups, and one for the top.
@@ -29,12 +29,6 @@ pub const CELLS: usize = MAX_GROUPS + 1;
 pub struct Found {
     pub fits: bool,
     pub rank: usize,
-}
-
-fn bit(x: u8) -> u16
-    ensures { result ≡ x }
-{
-    x as u16
 }
 
 // Where row `c` hangs on a side: at the group that it names, or, where it is earned, on the card side above that group. The number of
@@ -56,23 +50,10 @@ fn count_rows(file: &[u8], layout: Layout, side: usize, selection: &[u8], counts
     requires zero { Zero counts.old }
     ensures { Counted file.now selection.now layout side counts.new }
 {
-    let rows = layout.rows;
-    let mut c = 0;
-    while c < rows {
+    for c in 0..layout.rows {
         let g = hangs_at(file, layout, side, c);
-        counts[g] = counts[g] + bit(selection[c]);
-        c += 1;
+        counts[g] += u16::from(selection[c]);
     }
-}
-
-// As many as came, but no more than the limit.
-fn lesser(come: u16, limit: usize) -> u16
-    ensures { result ≡ min come limit }
-{
-    if limit < wide(come) {
-        return limit as u16;
-    }
-    come
 }
 
 // Passes on what came to group `g`, and tells whether that was all.
@@ -83,8 +64,8 @@ fn pass_on(file: &[u8], layout: Layout, side: usize, g: usize, counts: &mut [u16
     let group = group_of(file, layout, side, g);
     let up = above(g, group.parent, 0, groups_on(layout, side));
     let come = counts[g];
-    counts[up] = counts[up] + lesser(come, group.limit);
-    wide(come) <= group.limit
+    counts[up] += come.min(group.limit as u16);
+    usize::from(come) <= group.limit
 }
 
 // Lets the rows that are counted at their own groups rise, from the last group to the first. Where all came to the top, each count
@@ -95,14 +76,12 @@ fn rise(file: &[u8], layout: Layout, side: usize, counts: &mut [u16]) -> Found
 {
     let top = groups_on(layout, side);
     let mut fits = true;
-    let mut g = top;
-    while 0 < g {
-        g -= 1;
-        fits = fits & pass_on(file, layout, side, g, counts);
+    for g in (0..top).rev() {
+        fits &= pass_on(file, layout, side, g, counts);
     }
     Found {
         fits,
-        rank: wide(counts[top]),
+        rank: usize::from(counts[top]),
     }
 }
 

@@ -8,16 +8,14 @@
 --   WritesOn s l sel out out' r    for an accepted file, the answer r and the cells out' are the outcome
 --   Slips f s sel out out' r   the whole contract: the answer r and the cells out' are the outcome, and so are number and length
 --                          (`Leaves`)
-use Rattle.std.specs.Prelude.{ℕ, ◌+◌, ◌*◌, Bool, true, List, length, ltb, leb}
+use Rattle.refusal.specs.declared.Reason.{Reason}
+use Rattle.std.specs.Prelude.{ℕ, ◌+◌, ◌*◌, Bool, true, List, length, ltb, leb, Ok, Err, Result}
 use Rattle.theory.specs.Sum.{pick}
 use Rattle.claimfile.specs.declared.Form.{Form}
 use Rattle.claimfile.specs.declared.Layout.{Layout}
-use Rattle.reader.specs.declared.Reading.{Reading}
-use Rattle.reader.specs.declared.Reading.TheVariants as reading-is
 use Rattle.claimfile.specs.File.{days}
-use Rattle.reader.specs.Reading.{reading}
+use Rattle.reader.specs.Reading.{reading, Reading}
 use Rattle.selection.specs.Selection.{bits, kept_rows}
-use Rattle.refusal.specs.declared.Written.{Written}
 use Rattle.refusal.specs.declared.Reason.TheVariants.{File, Short, Day, Value}
 use Rattle.refusal.specs.Writing.{Outcome, turned, written, Leaves}
 use Rattle.slip.specs.Slip.{slip}
@@ -40,14 +38,14 @@ outcome_on s l sel out =
     (pick (bits l.rows sel) (written (slip s l sel) out) (turned Value out)))
 
 abbrev pub outcome_by : List ℕ → List ℕ → List ℕ → Reading → Outcome
-outcome_by s sel out (reading-is.Refused why) = turned (File why) out
-outcome_by s sel out (reading-is.Accepted l) = outcome_on s l sel out
+outcome_by s sel out (Err why) = turned (File why) out
+outcome_by s sel out (Ok l) = outcome_on s l sel out
 
 unfoldable pub outcome : Form → List ℕ → List ℕ → List ℕ → Outcome
 outcome f s sel out = outcome_by s sel out (reading f s)
 
-abbrev pub WritesOn : List ℕ → Layout → List ℕ → List ℕ → List ℕ → Written → Type 0
+abbrev pub WritesOn : List ℕ → Layout → List ℕ → List ℕ → List ℕ → Result ℕ Reason → Type 0
 WritesOn s l sel out out' r = Leaves (outcome_on s l sel out) out' r
 
-abbrev pub Slips : Form → List ℕ → List ℕ → List ℕ → List ℕ → Written → Type 0
+abbrev pub Slips : Form → List ℕ → List ℕ → List ℕ → List ℕ → Result ℕ Reason → Type 0
 Slips f s sel out out' r = Leaves (outcome f s sel out) out' r

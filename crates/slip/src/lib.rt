@@ -12,8 +12,8 @@ ghost use Rattle.slip.specs.Slip.{first_line, row_line, kept_line, kept_lines, s
 ghost use Rattle.slip.specs.Write.{WritesOn, Slips};
 
 use claimfile::{DAYS, Form, Layout, claim_of};
-use reader::{Reading, read};
-use refusal::{Reason, Written};
+use reader::read;
+use refusal::Reason;
 use selection::{Counts, EARNED, all_bits, count_rows};
 use text::{put, put_either, put_right, put_spread};
 
@@ -69,12 +69,9 @@ fn put_rows(file: &[u8], layout: Layout, at: usize, selection: &[u8], out: &mut 
     requires room { Room at (kept_lines file.now layout layout.rows selection.now) }
     ensures { Appended out.old out.new at result (kept_lines file.now layout layout.rows selection.now) }
 {
-    let rows = layout.rows;
     let mut next = at;
-    let mut c = 0;
-    while c < rows {
+    for c in 0..layout.rows {
         next = put_kept(file, layout, next, c, selection, out);
-        c += 1;
     }
     next
 }
@@ -91,36 +88,43 @@ fn put_slip(file: &[u8], layout: Layout, counts: Counts, selection: &[u8], out: 
 
 // Writes the slip of an accepted file: 8 where the selection or the buffer is too short, 12 where the week does not have the day, 9 where a
 // byte of the selection is over 1.
-pub fn slip_on(file: &[u8], layout: Layout, selection: &[u8], out: &mut [u8]) -> Written
+pub fn slip_on(
+    file: &[u8],
+    layout: Layout,
+    selection: &[u8],
+    out: &mut [u8],
+) -> Result<usize, Reason>
     requires { Sound file.now layout }
     ensures { WritesOn file.now layout selection.now out.old out.new result }
 {
     let rows = layout.rows;
     if selection.len() < rows {
-        return Written::Refused(Reason::Short);
+        return Err(Reason::Short);
     }
     let counts = count_rows(file, layout, EARNED, selection);
     let kept = counts.kept;
     if out.len() < WIDTH * (kept + 1) {
-        return Written::Refused(Reason::Short);
+        return Err(Reason::Short);
     }
     if DAYS <= layout.day {
-        return Written::Refused(Reason::Day);
+        return Err(Reason::Day);
     }
     if !all_bits(selection, rows) {
-        return Written::Refused(Reason::Value);
+        return Err(Reason::Value);
     }
-    Written::Bytes(put_slip(file, layout, counts, selection, out))
+    Ok(put_slip(file, layout, counts, selection, out))
 }
 
 // Writes the slip of a file in a form, with a selection whose ones are the kept rows. The selection has N bytes or more, where N is the
 // number of claims, and the buffer 33 × (kept + 1) or more, where kept is how many of the N bytes are 1.
-pub fn write_slip(file: &[u8], form: Form, selection: &[u8], out: &mut [u8]) -> Written
+pub fn write_slip(
+    file: &[u8],
+    form: Form,
+    selection: &[u8],
+    out: &mut [u8],
+) -> Result<usize, Reason>
     ensures { Slips form file.now selection.now out.old out.new result }
 {
-    let reading = read(file, form);
-    match reading {
-        Reading::Refused(why) => Written::Refused(Reason::File(why)),
-        Reading::Accepted(layout) => slip_on(file, layout, selection, out),
-    }
+    let layout = read(file, form)?;
+    slip_on(file, layout, selection, out)
 }

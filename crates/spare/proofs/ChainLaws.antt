@@ -1,5 +1,5 @@
 -- Laws of the way up from a group of a side.
---   UpsTo ups-step             the parents of the groups before g, and of the next one too
+--   UpsTo                      the parents of the groups before g
 --   lists-none lists-up        the groups from g up as a list: none from a root; g, and those from its parent up
 --   climbed-top climbed-up     one law for each branch of the walk
 --   climbed-chain chained-none the walk from the group where a row hangs lists the groups that it counts in; a row at the top has none
@@ -28,15 +28,6 @@ use Rattle.spare.specs.Chain.{Ups, Lists, Climbed, Chained}
 -- the parents of the groups before g
 abbrev pub UpsTo : List ℕ → Layout → ℕ → List ℕ → ℕ → Type 0
 UpsTo s l side ups g = (h : ℕ) → h < g → row ups h ≡ parent_in s l side h
-
-pub ups-step :
-    (s : List ℕ) (l : Layout) (side : ℕ) (ups : List ℕ) (g u : ℕ) → g < length ups → u ≡ parent_in s l side g →
-    UpsTo s l side ups g → UpsTo s l side (set ups g u) (g + 1)
-ups-step s l side ups g u inside e to h m =
-    elim (ℕ_discrete g h) [
-      | yes q ↦ rw (← q) (get_or-set_same ups g u 0 inside ∙ e)
-      | no q ↦ get_or-set_other ups g h u 0 (λ i. q (sym i)) ∙ to h (omega arith)
-    ]
 
 -- there is none from a root up
 lists-none : (s : List ℕ) (l : Layout) (side g n : ℕ) (list : List ℕ) → count_of l side ≤ g → Lists s l side g n n list

@@ -41,11 +41,7 @@ use Rattle.refusal.specs.declared.Reason.{Reason}
 use Rattle.refusal.specs.declared.Reason.TheVariants.{Value, Selected}
 use Rattle.refusal.proofs.TableLaws.{number-some}
 use Rattle.claimfile.specs.File.{first_terms}
-use Rattle.limits.specs.declared.Entry.{Entry}
-use Rattle.limits.specs.declared.Entry.TheVariants.{Entered, Turned}
 use Rattle.sides.specs.declared.Found.{Found}
-use Rattle.spare.specs.declared.Spare.{Spare}
-use Rattle.spare.specs.declared.Spare.TheVariants as spare-is
 use Rattle.limits.specs.Answers.{entered}
 use Rattle.spare.specs.Spare.{SparesOn, spare_by, spare, spare_numbers, Spared}
 use Rattle.sides.specs.Ready.{Ready}
@@ -54,6 +50,7 @@ use Rattle.spare.specs.Chain.{Chained}
 use Rattle.sides.proofs.ParentLaws.{side-down}
 use Rattle.sides.proofs.SideLaws.{group-node, node-group, both-on, both-load}
 use Rattle.limits.proofs.EntryLaws.{entering}
+use Rattle.std.specs.Prelude.{Ok, Err, Result}
 
 module _ (s sel : List ℕ) (l : Layout) (x : ℕ) where
   abbrev pub RoomAt : ℕ → ℕ → ℕ → Type 0
@@ -272,26 +269,26 @@ module _ (s sel : List ℕ) (l : Layout) (ready : Ready s sel l) (x : ℕ) (insi
 -- The answer
 
 module _ (s sel : List ℕ) (x : ℕ) where
-  spare-by : (f : Form) (y : Entry) → entered f s sel ≡ y → spare f s sel x ≡ spare_by s sel x y
+  spare-by : (f : Form) (y : Result Layout Reason) → entered f s sel ≡ y → spare f s sel x ≡ spare_by s sel x y
   unfolding spare
   spare-by f y e = ap (spare_by s sel x) e
 
   module _ (l : Layout) where
-    pub spare-value : l.rows ≤ x → spare-is.Refused Value ≡ spare_by s sel x (Entered l)
+    pub spare-value : l.rows ≤ x → Err Value ≡ spare_by s sel x (Ok l)
     spare-value h = rw (le-leb _ _ h)
 
     module _ (h : x < l.rows) where
-      pub spare-selected : row sel x ≡ 1 → spare-is.Refused Selected ≡ spare_by s sel x (Entered l)
+      pub spare-selected : row sel x ≡ 1 → Err Selected ≡ spare_by s sel x (Ok l)
       spare-selected e = rw (lt-leb _ _ h, eq-eqb _ _ e)
 
       pub spare-row :
           row sel x ≢ 1 → (n : ℕ) → n ≡ spare_places (network_of s l) (limit_of s l) (row sel) x →
-          spare-is.Places n ≡ spare_by s sel x (Entered l)
-      spare-row out n e = rw (lt-leb _ _ h, ne_eqb _ _ out) (ap spare-is.Places e)
+          Ok n ≡ spare_by s sel x (Ok l)
+      spare-row out n e = rw (lt-leb _ _ h, ne_eqb _ _ out) (ap Ok e)
 
-by_most : (s sel : List ℕ) (x : ℕ) (y : Entry) → (spare_numbers (spare_by s sel x y)).places ≤ max_limit
-by_most s sel x (Turned why) = zero-le
-by_most s sel x (Entered l) =
+by_most : (s sel : List ℕ) (x : ℕ) (y : Result Layout Reason) → (spare_numbers (spare_by s sel x y)).places ≤ max_limit
+by_most s sel x (Err why) = zero-le
+by_most s sel x (Ok l) =
     elim (either (leb l.rows x)) [
       | inl e ↦ rw e zero-le
       | inr e ↦
@@ -301,13 +298,13 @@ by_most s sel x (Entered l) =
           ]
     ]
 
-module _ (f : Form) (s sel : List ℕ) (x : ℕ) (r : Spare) (is : r ≡ spare f s sel x) (bytes : (i : ℕ) → get_or s i 0 < 256) where
+module _ (f : Form) (s sel : List ℕ) (x : ℕ) (r : Result ℕ Reason) (is : r ≡ spare f s sel x) (bytes : (i : ℕ) → get_or s i 0 < 256) where
   -- a refusal's number is not 0
-  not-refused : {A : Type 0} (why : Reason) → (spare_numbers r).refusal ≡ 0 → r ≡ spare-is.Refused why → A
+  not-refused : {A : Type 0} (why : Reason) → (spare_numbers r).refusal ≡ 0 → r ≡ Err why → A
   not-refused why none e = absurd (omega (arith, number-some why, ap (λ y. (spare_numbers y).refusal) e))
 
   means-entered :
-      (l : Layout) → (spare_numbers r).refusal ≡ 0 → entered f s sel ≡ Entered l → Ready s sel l →
+      (l : Layout) → (spare_numbers r).refusal ≡ 0 → entered f s sel ≡ Ok l → Ready s sel l →
       (row sel x ≡ 0) × SparesOn (instance_of s l) sel x (spare_numbers r).places
   means-entered l none e ready =
       elim (dec_lt x l.rows) [
@@ -317,14 +314,14 @@ module _ (f : Form) (s sel : List ℕ) (x : ℕ) (r : Spare) (is : r ≡ spare f
               | yes q ↦ not-refused Selected none (by ∙ sym (spare-selected s sel x l h q))
               | no q ↦ (
                 omega (arith, ready.bits x h),
-                subst (λ (y : Spare). SparesOn (instance_of s l) sel x (spare_numbers y).places)
+                subst (λ (y : Result ℕ Reason). SparesOn (instance_of s l) sel x (spare_numbers y).places)
                     (spare-row s sel x l h q _ refl ∙ sym by) (told-spares s sel l ready x h bytes),
               )
             ]
       ]
     where
-      by : r ≡ spare_by s sel x (Entered l)
-      by = is ∙ spare-by s sel x f (Entered l) e
+      by : r ≡ spare_by s sel x (Ok l)
+      by = is ∙ spare-by s sel x f (Ok l) e
 
   small : (spare_numbers r).places ≤ max_limit
   unfolding spare
@@ -338,13 +335,13 @@ module _ (f : Form) (s sel : List ℕ) (x : ℕ) (r : Spare) (is : r ≡ spare f
         most = small;
         means = λ l e none.
             elim (entering first_terms f s sel l e) [
-              | inl q ↦ not-refused q.0 none (is ∙ spare-by s sel x f (Turned q.0) q.1)
+              | inl q ↦ not-refused q.0 none (is ∙ spare-by s sel x f (Err q.0) q.1)
               | inr q ↦ means-entered l none q.0 q.1
             ];
       }
 
 -- the same of what the call answers: y is the entry that was found, z what it is
 pub spared-by :
-    (f : Form) (s sel : List ℕ) → ((i : ℕ) → get_or s i 0 < 256) → (x : ℕ) (r : Spare) (y z : Entry) → y ≡ entered f s sel → y ≡ z →
+    (f : Form) (s sel : List ℕ) → ((i : ℕ) → get_or s i 0 < 256) → (x : ℕ) (r : Result ℕ Reason) (y z : Result Layout Reason) → y ≡ entered f s sel → y ≡ z →
     r ≡ spare_by s sel x z → Spared f s sel x r
 spared-by f s sel bytes x r y z e q is = spared f s sel x r (is ∙ sym (spare-by s sel x f z (sym e ∙ q))) bytes

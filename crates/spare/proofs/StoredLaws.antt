@@ -9,11 +9,11 @@ use Rattle.claimfile.specs.File.{as_stored}
 use Rattle.reader.specs.Reading.{reading}
 use Rattle.claimfile.specs.declared.Form.{Form}
 use Rattle.claimfile.specs.declared.Layout.{Layout}
-use Rattle.reader.specs.declared.Reading.TheVariants.{Accepted}
 use Rattle.limits.proofs.StoredLaws.{entered-same}
 use Rattle.spare.specs.Spare.{spare_by, spare}
+use Rattle.std.specs.Prelude.{Ok}
 
 pub spare-same :
-    (f : Form) (s sel : List ℕ) (l : Layout) → reading f s ≡ Accepted l → (x : ℕ) → spare (as_stored f) s sel x ≡ spare f s sel x
+    (f : Form) (s sel : List ℕ) (l : Layout) → reading f s ≡ Ok l → (x : ℕ) → spare (as_stored f) s sel x ≡ spare f s sel x
 unfolding spare
 spare-same f s sel l is x = ap (spare_by s sel x) (entered-same f s sel l is)

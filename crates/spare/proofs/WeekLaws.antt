@@ -11,21 +11,20 @@ use Rattle.theory.specs.Matroid.{row}
 use Rattle.theory.specs.Spare.{spare_places}
 use Rattle.claimfile.specs.declared.Form.{Form}
 use Rattle.claimfile.specs.declared.Layout.{Layout}
-use Rattle.reader.specs.declared.Reading.TheVariants.{Accepted}
 use Rattle.reader.specs.Reading.{reading}
 use Rattle.claimwriter.specs.Week.{week_form, as_week}
 use Rattle.refusal.specs.declared.Reason.TheVariants.{Value, Selected}
 use Rattle.limits.proofs.WeekLaws.{entry-week}
-use Rattle.spare.specs.declared.Spare.TheVariants as spare-is
 use Rattle.spare.specs.Spare.{spare_by, spare}
+use Rattle.std.specs.Prelude.{Ok, Err}
 
 pub spare-week :
-    (f : Form) (s : List ℕ) (l : Layout) → reading f s ≡ Accepted l → ((i : ℕ) → get_or s i 0 < 256) → (sel : List ℕ) (x : ℕ) →
+    (f : Form) (s : List ℕ) (l : Layout) → reading f s ≡ Ok l → ((i : ℕ) → get_or s i 0 < 256) → (sel : List ℕ) (x : ℕ) →
     spare f s sel x ≡ spare (week_form f) (as_week s l) sel x
 unfolding spare
 spare-week f s l is bytes sel x =
     entry-week f s l is bytes sel (spare_by s sel x) (spare_by (as_week s l) sel x) (λ why. refl)
     (ap
     (λ i.
-    pick (leb l.rows x) (spare-is.Refused Value)
-    (pick (eqb (row sel x) 1) (spare-is.Refused Selected) (spare-is.Places (spare_places i.net i.limit (row sel) x)))))
+    pick (leb l.rows x) (Err Value)
+    (pick (eqb (row sel x) 1) (Err Selected) (Ok (spare_places i.net i.limit (row sel) x)))))

@@ -10,7 +10,7 @@
 --                          says
 -- What is told of the file and the selection is told first. "Then 7, 8, 9": 9 for a row not below N. Then 10, the row is already in the
 -- selection.
-use Rattle.std.specs.Prelude.{ℕ, ◌≤◌, ◌≡◌, List, leb, eqb}
+use Rattle.std.specs.Prelude.{ℕ, ◌≤◌, ◌≡◌, List, leb, eqb, Ok, Err, Result}
 use Rattle.theory.specs.Bounds.{max_limit}
 use Rattle.theory.specs.Sum.{pick}
 use Rattle.theory.specs.Matroid.{row}
@@ -21,38 +21,34 @@ use Rattle.reader.specs.Reading.{reading}
 use Rattle.claimfile.specs.Day.{limit_of, network_of, instance_of}
 use Rattle.claimfile.specs.declared.Form.{Form}
 use Rattle.claimfile.specs.declared.Layout.{Layout}
-use Rattle.reader.specs.declared.Reading.TheVariants as reading-is
 use Rattle.refusal.specs.declared.Reason.TheVariants.{Value, Selected}
 use Rattle.refusal.specs.Table.{number_of}
-use Rattle.limits.specs.declared.Entry.{Entry}
-use Rattle.limits.specs.declared.Entry.TheVariants.{Entered, Turned}
 use Rattle.limits.specs.Answers.{entered}
-use Rattle.spare.specs.declared.Spare.{Spare}
-use Rattle.spare.specs.declared.Spare.TheVariants as spare-is
+use Rattle.refusal.specs.declared.Reason.{Reason}
 
 abbrev pub SparesOn : Instance → List ℕ → ℕ → ℕ → Type 0
 SparesOn i sel x n = Spares i.net i.limit (row sel) x n
 
-abbrev pub spare_by : List ℕ → List ℕ → ℕ → Entry → Spare
-spare_by s sel x (Turned why) = spare-is.Refused why
-spare_by s sel x (Entered l) =
+abbrev pub spare_by : List ℕ → List ℕ → ℕ → Result Layout Reason → Result ℕ Reason
+spare_by s sel x (Err why) = Err why
+spare_by s sel x (Ok l) =
     pick (leb l.rows x)
-    (spare-is.Refused Value)
+    (Err Value)
     (pick (eqb (row sel x) 1)
-    (spare-is.Refused Selected)
-    (spare-is.Places (spare_places (network_of s l) (limit_of s l) (row sel) x)))
+    (Err Selected)
+    (Ok (spare_places (network_of s l) (limit_of s l) (row sel) x)))
 
-unfoldable pub spare : Form → List ℕ → List ℕ → ℕ → Spare
+unfoldable pub spare : Form → List ℕ → List ℕ → ℕ → Result ℕ Reason
 spare f s sel x = spare_by s sel x (entered f s sel)
 
-abbrev pub spare_numbers : Spare → SparePlacesAnswer
-spare_numbers (spare-is.Places n) = record { refusal = 0; places = n }
-spare_numbers (spare-is.Refused why) = record { refusal = number_of why; places = 0 }
+abbrev pub spare_numbers : Result ℕ Reason → SparePlacesAnswer
+spare_numbers (Ok n) = record { refusal = 0; places = n }
+spare_numbers (Err why) = record { refusal = number_of why; places = 0 }
 
-pub record Spared (f : Form) (s sel : List ℕ) (x : ℕ) (r : Spare) : Type 0 where
+pub record Spared (f : Form) (s sel : List ℕ) (x : ℕ) (r : Result ℕ Reason) : Type 0 where
   pub is : r ≡ spare f s sel x
   pub numbers : spare_numbers r ≡ spare_numbers (spare f s sel x)
   pub most : (spare_numbers r).places ≤ max_limit
   pub means :
-      (l : Layout) → reading f s ≡ reading-is.Accepted l → (spare_numbers r).refusal ≡ 0 →
+      (l : Layout) → reading f s ≡ Ok l → (spare_numbers r).refusal ≡ 0 →
       (row sel x ≡ 0) × SparesOn (instance_of s l) sel x (spare_numbers r).places

@@ -15,19 +15,12 @@ ghost use Rattle.spare.specs.Chain.{Ups, Climbed, Chained};
 ghost use Rattle.spare.specs.Spare.{SparesOn, Spared};
 
 use claimfile::{Form, Layout, group_of, groups_on};
-use instance::{above, wide};
-use limits::{Entry, enter};
+use instance::above;
+use limits::enter;
 use reader::FIRST_TERMS;
 use refusal::Reason;
 use sides::{CELLS, hangs_at, rise_on};
 use theory::MAX_LIMIT;
-
-// How many further claims like a row would fit beside a selection.
-#[derive(Clone, Copy)]
-pub enum Spare {
-    Places(usize),
-    Refused(Reason),
-}
 
 // The group above each group of a side: its parent, or the top.
 fn ups_of(file: &[u8], layout: Layout, side: usize) -> [u16; CELLS]
@@ -36,11 +29,9 @@ fn ups_of(file: &[u8], layout: Layout, side: usize) -> [u16; CELLS]
 {
     let top = groups_on(layout, side);
     let mut ups = [0u16; CELLS];
-    let mut g = 0;
-    while g < top {
+    for g in 0..top {
         let group = group_of(file, layout, side, g);
         ups[g] = above(g, group.parent, 0, top) as u16;
-        g += 1;
     }
     ups
 }
@@ -51,7 +42,7 @@ fn climb(ups: &[u16; CELLS], g: usize, n: usize, list: &mut [u16; CELLS]) -> usi
     ensures { Climbed ups.now g n list.old list.new result }
 {
     list[n] = g as u16;
-    let up = wide(ups[g]);
+    let up = usize::from(ups[g]);
     if g <= up {
         return n + 1;
     }
@@ -70,18 +61,6 @@ fn chain_of(file: &[u8], layout: Layout, side: usize, row: usize, list: &mut [u1
     }
     let ups = ups_of(file, layout, side);
     climb(&ups, g, 0, list)
-}
-
-// The lesser of `spare` and the places that a group with this limit has left beside its count.
-fn fewer(spare: usize, limit: usize, count: u16) -> usize
-    requires { count ≤ limit }
-    ensures { result ≡ min spare (limit - count) }
-{
-    let left = limit - wide(count);
-    if left < spare {
-        return left;
-    }
-    spare
 }
 
 // How many further claims like row `row` would fit beside a selection of an accepted file: the smallest, over all groups that the row
@@ -103,9 +82,9 @@ pub fn spare_on(file: &[u8], layout: Layout, row: usize, selection: &[u8]) -> us
         let mut list = [0u16; CELLS];
         let groups = chain_of(file, layout, side, row, &mut list);
         for k in 0..groups {
-            let g = wide(list[k]);
+            let g = usize::from(list[k]);
             let group = group_of(file, layout, side, g);
-            spare = fewer(spare, group.limit, counts[g]);
+            spare = spare.min(group.limit - usize::from(counts[g]));
             if spare == 0 {
                 break 'sides;
             }
@@ -115,20 +94,15 @@ pub fn spare_on(file: &[u8], layout: Layout, row: usize, selection: &[u8]) -> us
 }
 
 // How many further claims like the row would fit beside a selection that does not hold it, for a file in a form.
-pub fn spare_places(file: &[u8], form: Form, selection: &[u8], row: usize) -> Spare
+pub fn spare_places(file: &[u8], form: Form, selection: &[u8], row: usize) -> Result<usize, Reason>
     ensures { Spared form file.now selection.now row result }
 {
-    let entry = enter(file, form, FIRST_TERMS, selection);
-    match entry {
-        Entry::Turned(why) => Spare::Refused(why),
-        Entry::Entered(layout) => {
-            if layout.rows <= row {
-                return Spare::Refused(Reason::Value);
-            }
-            if selection[row] == 1 {
-                return Spare::Refused(Reason::Selected);
-            }
-            Spare::Places(spare_on(file, layout, row, selection))
-        }
+    let layout = enter(file, form, FIRST_TERMS, selection)?;
+    if layout.rows <= row {
+        return Err(Reason::Value);
     }
+    if selection[row] == 1 {
+        return Err(Reason::Selected);
+    }
+    Ok(spare_on(file, layout, row, selection))
 }

@@ -1,8 +1,7 @@
 // The tally during the day: which rows are in, and how many of them count in each group.
 //
 // A tally is its tables, which nothing changes once it is begun, and its state, which a call on a row changes; it needs the file no more.
-// The methods do the counting: the state goes in by value and comes back by value, and the tables are only lent, so that a call that is
-// lent a tally copies the state alone.
+// The methods do the counting: they are lent the state and the tables, and change the state alone.
 //
 // A row counts at its card node and at its shop node, and at each node above these. First each node of both chains is tested for a place
 // left; then each count on them changes by 1: a refused call has nothing to undo. A walk takes tables of fixed length and a number, and its own call comes
@@ -13,11 +12,11 @@
 
 ghost use Rattle.std.specs.Prelude.{◌≡◌, ◌<◌};
 ghost use Rattle.theory.specs.Bounds.{max_rows};
+ghost use Rattle.refusal.specs.Table.{outcome_number};
 ghost use Rattle.tally.specs.Walks.{stepped, HasPlace, HasPlaces, Counted, CountedRow, LacksRow, PutTold, TakeTold, node_of};
 ghost use Rattle.tally.specs.Tally.{tally, PutIn, TakenOut, Shows};
 
 use answers::TallyCountAnswer;
-use instance::wide;
 use refusal::{Reason, number};
 use theory::{MAX_GROUPS, MAX_ROWS};
 
@@ -53,40 +52,27 @@ pub struct Tally {
     pub state: State,
 }
 
-// What a method and a beginning answer: the refusal's number, or 0, with the state as it is then.
-#[derive(Drop)]
-pub struct Placed {
-    pub number: u32,
-    pub state: State,
-}
-
 // A count with one row more or one row less, from 0 to 65535.
 fn step(count: u16, more: bool) -> u16
     ensures { result ≡ stepped more count }
 {
     if more {
-        if count == 65535 {
-            return count;
-        }
-        return count + 1;
+        return count.saturating_add(1);
     }
-    if count == 0 {
-        return count;
-    }
-    count - 1
+    count.saturating_sub(1)
 }
 
 // Whether node `u` and each node above it has a place left.
-fn has_place<'a, 'b>(tables: &'a [u16; CELLS], counts: &'b [u16; NODES], u: usize) -> bool
+fn has_place(tables: &[u16; CELLS], counts: &[u16; NODES], u: usize) -> bool
     ensures { HasPlace tables.now counts.now u result }
 {
     if NODES <= u {
         return true;
     }
-    if wide(tables[LIMITS + u]) <= wide(counts[u]) {
+    if tables[LIMITS + u] <= counts[u] {
         return false;
     }
-    let up = wide(tables[u]);
+    let up = usize::from(tables[u]);
     if u <= up {
         return true;
     }
@@ -101,21 +87,21 @@ fn count_from(tables: &[u16; CELLS], counts: &mut [u16; NODES], u: usize, more: 
         return;
     }
     counts[u] = step(counts[u], more);
-    let up = wide(tables[u]);
+    let up = usize::from(tables[u]);
     if up < u {
         count_from(tables, counts, up, more);
     }
 }
 
 // Whether row `c` has a place left on both sides.
-fn has_places<'a, 'b>(tables: &'a [u16; CELLS], counts: &'b [u16; NODES], c: usize) -> bool
+fn has_places(tables: &[u16; CELLS], counts: &[u16; NODES], c: usize) -> bool
     requires { c < max_rows }
     ensures { HasPlaces tables.now counts.now c result }
 {
-    if !has_place(tables, counts, wide(tables[CARD_NODES + c])) {
+    if !has_place(tables, counts, usize::from(tables[CARD_NODES + c])) {
         return false;
     }
-    has_place(tables, counts, wide(tables[SHOP_NODES + c]))
+    has_place(tables, counts, usize::from(tables[SHOP_NODES + c]))
 }
 
 // Counts row `c` in, or out, on both sides.
@@ -123,8 +109,8 @@ fn count_row(tables: &[u16; CELLS], counts: &mut [u16; NODES], c: usize, more: b
     requires { c < max_rows }
     ensures { CountedRow more tables.now counts.old counts.new c }
 {
-    count_from(tables, counts, wide(tables[CARD_NODES + c]), more);
-    count_from(tables, counts, wide(tables[SHOP_NODES + c]), more);
+    count_from(tables, counts, usize::from(tables[CARD_NODES + c]), more);
+    count_from(tables, counts, usize::from(tables[SHOP_NODES + c]), more);
 }
 
 // Whether there is no row `c`. A tally that was not begun may say that it has more rows than cells.
@@ -137,39 +123,33 @@ fn lacks_row(rows: usize, c: usize) -> bool
     ROWS <= c
 }
 
-// The number that putting in row `c` answers.
-fn put_number<'a, 'b>(
-    tables: &'a [u16; CELLS],
-    rows: usize,
-    counts: &'b [u16; NODES],
-    selection: &'b [u8; ROWS],
-    c: usize,
-) -> u32
-    ensures { PutTold tables.now rows counts.now selection.now c result }
+// Why row `c` cannot be put in.
+fn judge_put(tables: &[u16; CELLS], state: &State, c: usize) -> Result<(), Reason>
+    ensures { PutTold tables.now state.now.rows state.now.counts state.now.selection c (outcome_number result) }
 {
-    if lacks_row(rows, c) {
-        return number(Reason::Value);
+    if lacks_row(state.rows, c) {
+        return Err(Reason::Value);
     }
-    if selection[c] != 0 {
-        return number(Reason::Inside);
+    if state.selection[c] != 0 {
+        return Err(Reason::Inside);
     }
-    if !has_places(tables, counts, c) {
-        return number(Reason::Full);
+    if !has_places(tables, &state.counts, c) {
+        return Err(Reason::Full);
     }
-    0
+    Ok(())
 }
 
-// The number that taking out row `c` answers.
-fn take_number(rows: usize, selection: &[u8; ROWS], c: usize) -> u32
-    ensures { TakeTold rows selection.now c result }
+// Why row `c` cannot be taken out.
+fn judge_take(state: &State, c: usize) -> Result<(), Reason>
+    ensures { TakeTold state.now.rows state.now.selection c (outcome_number result) }
 {
-    if lacks_row(rows, c) {
-        return number(Reason::Value);
+    if lacks_row(state.rows, c) {
+        return Err(Reason::Value);
     }
-    if selection[c] == 0 {
-        return number(Reason::Outside);
+    if state.selection[c] == 0 {
+        return Err(Reason::Outside);
     }
-    0
+    Ok(())
 }
 
 // The node of a group of a side (0 card, 1 shop), and at least NODES where there is no such group.
@@ -196,41 +176,34 @@ fn node_of(cards: usize, shops: usize, side: u32, group: u32) -> usize
 }
 
 impl State {
+    // stays: the new form is no plainer: `put_in` and `take_out` share `count_row`, and one function for both would take a flag, the byte and
+    // the number, and its clause would name both promises.
+    //
     // Puts a row in.
-    pub fn put_in(mut self, tables: &[u16; CELLS], row: u32) -> Placed
-        ensures { PutIn (tally tables.now self) row result.number (tally tables.now result.state) }
+    pub fn put_in(&mut self, tables: &[u16; CELLS], row: u32) -> Result<(), Reason>
+        ensures { PutIn (tally tables.now self.old) row (outcome_number result) (tally tables.now self.new) }
     {
         let c = row as usize;
-        let put_refusal = put_number(tables, self.rows, &self.counts, &self.selection, c);
-        if put_refusal == 0 {
-            count_row(tables, &mut self.counts, c, true);
-            self.selection[c] = 1;
-        }
-        Placed {
-            number: put_refusal,
-            state: self,
-        }
+        judge_put(tables, self, c)?;
+        count_row(tables, &mut self.counts, c, true);
+        self.selection[c] = 1;
+        Ok(())
     }
 
     // Takes a row out.
-    pub fn take_out(mut self, tables: &[u16; CELLS], row: u32) -> Placed
-        ensures { TakenOut (tally tables.now self) row result.number (tally tables.now result.state) }
+    pub fn take_out(&mut self, tables: &[u16; CELLS], row: u32) -> Result<(), Reason>
+        ensures { TakenOut (tally tables.now self.old) row (outcome_number result) (tally tables.now self.new) }
     {
         let c = row as usize;
-        let take_refusal = take_number(self.rows, &self.selection, c);
-        if take_refusal == 0 {
-            count_row(tables, &mut self.counts, c, false);
-            self.selection[c] = 0;
-        }
-        Placed {
-            number: take_refusal,
-            state: self,
-        }
+        judge_take(self, c)?;
+        count_row(tables, &mut self.counts, c, false);
+        self.selection[c] = 0;
+        Ok(())
     }
 
     // How many of the rows that are in count in a group of a side (0 card, 1 shop).
-    pub fn count_of(self, side: u32, group: u32) -> TallyCountAnswer
-        ensures { Shows self side group result }
+    pub fn count_of(&self, side: u32, group: u32) -> TallyCountAnswer
+        ensures { Shows self.now side group result }
     {
         let node = node_of(self.cards, self.shops, side, group);
         if NODES <= node {
@@ -241,7 +214,7 @@ impl State {
         }
         TallyCountAnswer {
             refusal: 0,
-            count: self.counts[node] as u32,
+            count: u32::from(self.counts[node]),
         }
     }
 }

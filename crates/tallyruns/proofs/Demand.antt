@@ -38,7 +38,6 @@ use Rattle.claimfile.specs.declared.Layout.{Layout}
 use Rattle.claimfile.specs.File.{days, first_terms, as_stored}
 use Rattle.claimfile.specs.Day.{groups_of, limit_of, network_of, instance_of}
 use Rattle.reader.specs.declared.Refusal.{Refusal}
-use Rattle.reader.specs.declared.Reading.TheVariants.{Accepted, Refused}
 use Rattle.reader.specs.Reading.{reading}
 use Rattle.reader.proofs.StoredLaws.{new-stored}
 use Rattle.claimwriter.specs.Week.{week_form, as_week, week_layout}
@@ -48,14 +47,9 @@ use Rattle.claimwriter.proofs.WidenedLaws.{widened-refused}
 use Rattle.refusal.specs.declared.Reason.TheVariants.{Full}
 use Rattle.refusal.specs.Table.{number_of}
 use Rattle.selection.proofs.SelectionLaws.{bits_are}
-use Rattle.limits.specs.declared.Entry.TheVariants.{Entered}
-use Rattle.limits.specs.declared.Ranked.{Ranked}
-use Rattle.limits.specs.declared.Ranked.TheVariants.{Told}
 use Rattle.limits.specs.Answers.{entered, ranked_by, ranked_in, ranked, ranked_numbers, Answered}
 use Rattle.limits.proofs.EntryLaws.{entered_by_lem, judged-is}
 use Rattle.sides.specs.Found.{fits_of, found_on}
-use Rattle.spare.specs.declared.Spare.{Spare}
-use Rattle.spare.specs.declared.Spare.TheVariants.{Places}
 use Rattle.spare.specs.Spare.{spare_by, spare, spare_numbers, Spared}
 use Rattle.tally.specs.declared.Tally.{Tally}
 use Rattle.tally.specs.Tally.{Holds, none, put_number, take_number, after_put, after_take, PutIn, TakenOut, shown_of, CountRead}
@@ -65,9 +59,12 @@ use Rattle.tallytables.specs.Begin.{Started}
 use Rattle.tallytables.proofs.BeginLaws.{started-refused, started-dayless, started-filled}
 use Rattle.tallyruns.specs.Runs.{Call, Run, in_after}
 use Rattle.tallyruns.proofs.RunLaws.{run_holds}
+use Rattle.std.specs.Prelude.{Ok, Err, Result}
+use Rattle.sides.specs.declared.Found.{Found}
+use Rattle.refusal.specs.declared.Reason.{Reason}
 
 module _
-    (f : Form) (s : List ℕ) (l : Layout) (is : reading f s ≡ Accepted l) (day : l.day < days) (n : ℕ) (t : Tally)
+    (f : Form) (s : List ℕ) (l : Layout) (is : reading f s ≡ Ok l) (day : l.day < days) (n : ℕ) (t : Tally)
     (began : Started f s n t) (calls : List Call) (t' : Tally) (run : Run t calls t')
   where
     abbrev i : Instance
@@ -108,9 +105,9 @@ module _
     pub selection-rows : (c : ℕ) → c < l.rows → row sel c ≡ rows c
     selection-rows c h = in_is i t' rows day-holds c h
 
-    enters : entered f s sel ≡ Entered l
+    enters : entered f s sel ≡ Ok l
     enters =
-        entered_by_lem first_terms f s sel (Accepted l) is
+        entered_by_lem first_terms f s sel (Ok l) is
         ∙ sym
         (judged-is sel l (omega (arith, day-holds.long_selection, day-holds.rows_most)) day
         (bits_are l.rows sel (λ c h. omega (arith, selection-rows c h, day-holds.choice.bits c h))))
@@ -129,21 +126,21 @@ module _
         on (suc zero) h = alike 1 rows (row sel) (λ c k. sym (selection-rows c k)) rows_fit.1
         on (suc (suc side)) h = absurd (omega arith)
 
-    ranked-told : (side : ℕ) → side < 2 → ranked f s sel side ≡ Told true (found_on i sel side).rank
+    ranked-told : (side : ℕ) → side < 2 → ranked f s sel side ≡ Ok (record { fits = true; rank = (found_on i sel side).rank })
     unfolding ranked_in
     ranked-told side h =
         let low : side ≤ 1 = omega arith in
         ap (ranked_by s sel side) enters ∙ rw (le-ltb _ _ low, fits-true side h)
 
     pub selection-fits :
-        (side : ℕ) → side < 2 → (r : Ranked) → Answered f s sel side r →
+        (side : ℕ) → side < 2 → (r : Result Found Reason) → Answered f s sel side r →
         ((ranked_numbers r).refusal ≡ 0) × ((ranked_numbers r).fits ≡ 1)
     selection-fits side h r a =
         let told = a.numbers ∙ ap ranked_numbers (ranked-told side h) in
         (ap (λ (x : FitsAndRankAnswer). x.refusal) told, ap (λ (x : FitsAndRankAnswer). x.fits) told)
 
     module _ (c : ℕ) (h : c < l.rows) (out : rows c ≡ 0) where
-      spare-told : spare f s sel c ≡ Places (spare_places (network_of s l) (limit_of s l) (row sel) c)
+      spare-told : spare f s sel c ≡ Ok (spare_places (network_of s l) (limit_of s l) (row sel) c)
       unfolding spare
       spare-told =
           let other : row sel c ≢ 1 = λ e. omega (arith, selection-rows c h) in
@@ -167,7 +164,7 @@ module _
       )
 
       pub full-spare :
-          (m : ℕ) (u : Tally) → PutIn t' c m u → (r : Spare) → Spared f s sel c r →
+          (m : ℕ) (u : Tally) → PutIn t' c m u → (r : Result ℕ Reason) → Spared f s sel c r →
           ((spare_numbers r).refusal ≡ 0) × ((m ≡ number_of Full) ↔ ((spare_numbers r).places ≡ 0))
       full-spare m u p r a =
           elim (either (fits_both (network_of s l) (limit_of s l) (plus rows c))) [
@@ -204,7 +201,7 @@ module _
 
 -- two files that hold the same day, with the same weekday named
 began-as :
-    (f g : Form) (s s' : List ℕ) (l l' : Layout) → reading f s ≡ Accepted l → reading g s' ≡ Accepted l' →
+    (f g : Form) (s s' : List ℕ) (l l' : Layout) → reading f s ≡ Ok l → reading g s' ≡ Ok l' →
     l.day ≡ l'.day → (l.day < days → instance_of s l ≡ instance_of s' l') → (n : ℕ) (t : Tally) → Started f s n t →
     Started g s' n t
 began-as f g s s' l l' is there day same n t began =
@@ -219,7 +216,7 @@ began-as f g s s' l l' is there day same n t began =
     ]
 
 module _ (f : Form) (s : List ℕ) (n : ℕ) (t : Tally) (began : Started f s n t) where
-  module _ (l : Layout) (is : reading f s ≡ Accepted l) where
+  module _ (l : Layout) (is : reading f s ≡ Ok l) where
     pub begun-stored : Started (as_stored f) s n t
     begun-stored = began-as f (as_stored f) s s l l is (new-stored f s l is) refl (λ h. refl) n t began
 
@@ -229,7 +226,7 @@ module _ (f : Form) (s : List ℕ) (n : ℕ) (t : Tally) (began : Started f s n 
         t began
 
   pub begun-refused :
-      f.week ≡ false → (why : Refusal) → reading f s ≡ Refused why → Started (week_form f) (widened s) n t
+      f.week ≡ false → (why : Refusal) → reading f s ≡ Err why → Started (week_form f) (widened s) n t
   begun-refused old why is =
       let b = began.refused why is in
       started-refused (week_form f) (widened s) n t why ((widened-refused f s why old).0 is) b.0 b.1

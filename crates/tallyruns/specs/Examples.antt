@@ -6,14 +6,13 @@
 --   answers i X asked      what the calls of a run answer, where the rows X are in before
 --   answers_by s x run      the same of a file s that was read as x, with no row in before
 --   run                    a run of calls with their answers; `run-old` and `run-week` (proofs/Examples.antt) say that they are these
-use Rattle.std.specs.Prelude.{List, [], ◌∷◌, ℕ}
+use Rattle.std.specs.Prelude.{List, [], ◌∷◌, ℕ, Ok, Err}
 use Rattle.theory.specs.Network.{Instance}
 use Rattle.claimfile.specs.Day.{instance_of}
-use Rattle.reader.specs.declared.Reading.{Reading}
-use Rattle.reader.specs.declared.Reading.TheVariants.{Accepted, Refused}
 use Rattle.tally.specs.Tally.{none, put_number, take_number, shown_of}
 use Rattle.tallyruns.specs.Runs.{Call, after}
 use Rattle.tallyruns.specs.Runs.Call.{put, taken, read}
+use Rattle.reader.specs.Reading.{Reading}
 
 pub record Asked : Type 0 where
   pub call : Call
@@ -33,8 +32,8 @@ answers i X [] = []
 answers i X (a ∷ more) = answer i X a.call ∷ answers i (after i X a.call) more
 
 abbrev pub answers_by : List ℕ → Reading → List Asked → List Asked
-answers_by s (Accepted l) run = answers (instance_of s l) none run
-answers_by s (Refused why) run = []
+answers_by s (Ok l) run = answers (instance_of s l) none run
+answers_by s (Err why) run = []
 
 abbrev pub run : List Asked
 run =

@@ -18,7 +18,6 @@ use Rattle.claimfile.specs.Day.{groups_of, limit_of, network_of, instance_of}
 use Rattle.claimfile.specs.Sound.{Sound}
 use Rattle.claimfile.proofs.DayLaws.{sound-formed}
 use Rattle.reader.specs.declared.Refusal.{Refusal}
-use Rattle.reader.specs.declared.Reading.TheVariants.{Accepted, Refused}
 use Rattle.reader.specs.Reading.{reading}
 use Rattle.reader.proofs.AcceptedLaws.{one-layout, one-refusal, not-both}
 use Rattle.refusal.specs.declared.Reason.TheVariants.{File, Day}
@@ -29,6 +28,7 @@ use Rattle.tally.specs.Cells.{cells, Table, up_to, cell_of}
 use Rattle.tally.specs.Tally.{tally, none_in, none, Holds}
 use Rattle.tally.proofs.CellLaws.{up-to-in, up-to-past}
 use Rattle.tallytables.specs.Begin.{Empty, Started}
+use Rattle.std.specs.Prelude.{Ok, Err}
 
 pub empty-none : (tb : List ℕ) (st : State) → Table cells none tb → st ≡ none_in 0 0 0 → Empty (tally tb st)
 empty-none tb st table is = subst (λ (x : State). Empty (tally tb x)) (sym is) record {
@@ -75,15 +75,15 @@ filled_none s l sound tb st table is = subst (λ (x : State). Holds (instance_of
 
 module _ (f : Form) (s : List ℕ) (n : ℕ) (t : Tally) where
   pub started-refused :
-      (why : Refusal) → reading f s ≡ Refused why → n ≡ number_of (File why) → Empty t → Started f s n t
+      (why : Refusal) → reading f s ≡ Err why → n ≡ number_of (File why) → Empty t → Started f s n t
   started-refused why is number empty = record {
     refused = λ w p. (number ∙ ap (λ (x : Refusal). number_of (File x)) (one-refusal (reading f s) why w is p), empty);
     dayless = λ l p. not-both (reading f s) l why p is;
     accepted = λ l p. not-both (reading f s) l why p is;
   }
 
-  module _ (l : Layout) (is : reading f s ≡ Accepted l) where
-    same-day : (k : Layout) → reading f s ≡ Accepted k → l.day ≡ k.day
+  module _ (l : Layout) (is : reading f s ≡ Ok l) where
+    same-day : (k : Layout) → reading f s ≡ Ok k → l.day ≡ k.day
     same-day k p = ap (λ (x : Layout). x.day) (one-layout (reading f s) l k is p)
 
     pub started-dayless : days ≤ l.day → n ≡ number_of Day → Empty t → Started f s n t

@@ -5,7 +5,7 @@
 --                          12, and the tally is empty
 -- "A tally begun from a file and a day holds its tables, which rows are in (none at first), and each group's count .. A refused beginning
 -- gives one without rows or groups."
-use Rattle.std.specs.Prelude.{◌≡◌, List, ℕ, ◌<◌, ◌≤◌}
+use Rattle.std.specs.Prelude.{◌≡◌, List, ℕ, ◌<◌, ◌≤◌, Ok, Err}
 use Rattle.theory.specs.Bounds.{max_rows}
 use Rattle.claimfile.specs.declared.Form.{Form}
 use Rattle.claimfile.specs.declared.Layout.{Layout}
@@ -13,7 +13,6 @@ use Rattle.claimfile.specs.File.{days}
 use Rattle.claimfile.specs.Day.{instance_of}
 use Rattle.claimfile.specs.Sound.{Sound}
 use Rattle.reader.specs.declared.Refusal.{Refusal}
-use Rattle.reader.specs.declared.Reading.TheVariants.{Accepted, Refused}
 use Rattle.reader.specs.Reading.{reading}
 use Rattle.refusal.specs.declared.Reason.TheVariants.{File, Day}
 use Rattle.refusal.specs.Table.{number_of}
@@ -34,6 +33,6 @@ pub record Empty (t : Tally) : Type 0 where
   pub counts : Table nodes none t.state.counts
 
 pub record Started (f : Form) (s : List ℕ) (n : ℕ) (t : Tally) : Type 0 where
-  pub refused : (why : Refusal) → reading f s ≡ Refused why → (n ≡ number_of (File why)) × Empty t
-  pub dayless : (l : Layout) → reading f s ≡ Accepted l → days ≤ l.day → (n ≡ number_of Day) × Empty t
-  pub accepted : (l : Layout) → reading f s ≡ Accepted l → l.day < days → (n ≡ 0) × Holds (instance_of s l) t none
+  pub refused : (why : Refusal) → reading f s ≡ Err why → (n ≡ number_of (File why)) × Empty t
+  pub dayless : (l : Layout) → reading f s ≡ Ok l → days ≤ l.day → (n ≡ number_of Day) × Empty t
+  pub accepted : (l : Layout) → reading f s ≡ Ok l → l.day < days → (n ≡ 0) × Holds (instance_of s l) t none

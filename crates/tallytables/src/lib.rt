@@ -3,19 +3,19 @@
 // A cell is found from the file and from the cells before it: a limit is lowered by the limit of the node above, whose cell stands before.
 #![tactic(auto)]
 
-ghost use Rattle.std.specs.Prelude.{◌≡◌, ◌+◌, ◌<◌, ◌≤◌, length};
+ghost use Rattle.std.specs.Prelude.{◌≡◌, ◌+◌, ◌<◌, ◌≤◌, length, Ok, Err};
 ghost use Rattle.claimfile.specs.Day.{groups_of, instance_of, network_of};
 ghost use Rattle.claimfile.specs.Sound.{Sound};
 ghost use Rattle.tally.specs.Cells.{nodes, cells, Table, to_cell, parent_cell, limit_cell, row_cell, cell_of};
 ghost use Rattle.tally.specs.Tally.{tally, none_in, none, Holds};
-ghost use Rattle.refusal.specs.Table.{number_of};
+ghost use Rattle.refusal.specs.Table.{outcome_number};
 ghost use Rattle.tallytables.specs.Begin.{Reads, Empty, Started};
 
 use claimfile::{DAYS, Form, Layout, claim_of};
-use instance::{card_node, lesser, node_at, shop_node, wide};
-use reader::{Reading, read};
-use refusal::{Reason, number};
-use tally::{CARD_NODES, CELLS, LIMITS, NODES, Placed, ROWS, SHOP_NODES, State};
+use instance::{card_node, lesser, node_at, shop_node};
+use reader::read;
+use refusal::Reason;
+use tally::{CARD_NODES, CELLS, LIMITS, NODES, ROWS, SHOP_NODES, State};
 
 // A node as a cell has it: one that is no group stands above the tops.
 fn to_cell(groups: usize, node: usize) -> usize
@@ -49,11 +49,11 @@ fn limit_cell(file: &[u8], layout: Layout, v: usize, tables: &[u16; CELLS]) -> u
         return 0;
     }
     let limit = node_at(file, layout, v).limit;
-    let up = wide(tables[v]);
+    let up = usize::from(tables[v]);
     if v <= up {
         return limit;
     }
-    lesser(limit, wide(tables[LIMITS + up]))
+    lesser(limit, usize::from(tables[LIMITS + up]))
 }
 
 // The card node of row `c`, and 0 where there is no such row.
@@ -103,10 +103,8 @@ fn fill(file: &[u8], layout: Layout, tables: &mut [u16; CELLS])
     requires { (Sound file.now layout) × (length tables.old ≡ cells) }
     ensures { Table cells (cell_of (instance_of file.now layout)) tables.new }
 {
-    let mut i = 0;
-    while i < CELLS {
+    for i in 0..CELLS {
         tables[i] = cell(file, layout, i, tables) as u16;
-        i += 1;
     }
 }
 
@@ -115,11 +113,7 @@ fn clear(tables: &mut [u16; CELLS])
     requires { length tables.old ≡ cells }
     ensures { Table cells none tables.new }
 {
-    let mut i = 0;
-    while i < CELLS {
-        tables[i] = 0;
-        i += 1;
-    }
+    tables.fill(0);
 }
 
 // The state of a tally with so many groups and rows, in which no row is in.
@@ -135,43 +129,48 @@ fn none_in(cards: usize, shops: usize, rows: usize) -> State
     }
 }
 
-// A refused beginning: a tally without rows or groups.
-fn refused(why: Reason, tables: &mut [u16; CELLS]) -> Placed
+// A refused beginning: leaves a tally without rows or groups, and answers why.
+fn refuse(why: Reason, tables: &mut [u16; CELLS], state: &mut State) -> Result<(), Reason>
     requires { length tables.old ≡ cells }
-    ensures { (result.number ≡ number_of why) × Empty (tally tables.new result.state) }
+    ensures { (result ≡ Err why) × Empty (tally tables.new state.new) }
 {
     clear(tables);
-    Placed {
-        number: number(why),
-        state: none_in(0, 0, 0),
-    }
+    *state = none_in(0, 0, 0);
+    Err(why)
 }
 
-// The tally of an accepted file.
-fn begun(file: &[u8], layout: Layout, tables: &mut [u16; CELLS]) -> Placed
+// Leaves the tally of an accepted file, in which no row is in.
+fn enter(
+    file: &[u8],
+    layout: Layout,
+    tables: &mut [u16; CELLS],
+    state: &mut State,
+) -> Result<(), Reason>
     requires { (Sound file.now layout) × (length tables.old ≡ cells) }
-    ensures { (result.number ≡ 0) × Holds (instance_of file.now layout) (tally tables.new result.state) none }
+    ensures { (result ≡ Ok tt) × Holds (instance_of file.now layout) (tally tables.new state.new) none }
 {
     fill(file, layout, tables);
-    Placed {
-        number: 0,
-        state: none_in(layout.cards, layout.shops, layout.rows),
-    }
+    *state = none_in(layout.cards, layout.shops, layout.rows);
+    Ok(())
 }
 
-// Begins a tally from a file in a form, in lent tables: a tally in which no row is in, or one without rows or groups and why.
-pub fn begin_tally(file: &[u8], form: Form, tables: &mut [u16; CELLS]) -> Placed
+// Begins a tally from a file in a form: one in which no row is in, or one without rows or groups, and why.
+pub fn begin_tally(
+    file: &[u8],
+    form: Form,
+    tables: &mut [u16; CELLS],
+    state: &mut State,
+) -> Result<(), Reason>
     requires { length tables.old ≡ cells }
-    ensures { Started form file.now result.number (tally tables.new result.state) }
+    ensures { Started form file.now (outcome_number result) (tally tables.new state.new) }
 {
-    let reading = read(file, form);
-    match reading {
-        Reading::Refused(why) => refused(Reason::File(why), tables),
-        Reading::Accepted(layout) => {
+    match read(file, form) {
+        Err(why) => refuse(Reason::File(why), tables, state),
+        Ok(layout) => {
             if DAYS <= layout.day {
-                return refused(Reason::Day, tables);
+                return refuse(Reason::Day, tables, state);
             }
-            begun(file, layout, tables)
+            enter(file, layout, tables, state)
         }
     }
 }

@@ -30,22 +30,19 @@ use Rattle.theory.proofs.PriorityLaws.{lex-same, lex-at}
 use Rattle.theory.proofs.LevelLaws.{certified-heaviest}
 use Rattle.theory.proofs.ChoiceLaws as choice
 use Rattle.claimfile.specs.declared.Layout.{Layout}
-use Rattle.reader.specs.declared.Reading.{Reading}
-use Rattle.reader.specs.declared.Reading.TheVariants as reading-is
 use Rattle.claimfile.specs.File.{second_terms, days}
-use Rattle.reader.specs.Reading.{reading_kinds}
+use Rattle.reader.specs.Reading.{reading_kinds, Reading}
 use Rattle.claimfile.specs.Day.{network_of, instance_of}
 use Rattle.reader.proofs.TermsLaws.{second-kinds}
 use Rattle.refusal.specs.declared.Reason.{Reason}
 use Rattle.refusal.specs.declared.Reason.TheVariants.{File}
 use Rattle.answers.specs.declared.SettleKindsAnswer.{SettleKindsAnswer}
 use Rattle.kinds.specs.declared.KindTotals.{KindTotals}
-use Rattle.kinds.specs.declared.SettledKinds.{SettledKinds}
-use Rattle.kinds.specs.declared.SettledKinds.TheVariants.{Closed, Refused}
 use Rattle.closing.specs.Settle.{Enough, best_row_in, mark_of, claim_mark_of}
 use Rattle.closing.specs.ClosesIn.{ClosesIn}
 use Rattle.closing.proofs.Demand.{closed-by}
 use Rattle.kinds.specs.Settle.{count_of, settled_kinds_numbers, told_kinds_for, SettlesKinds}
+use Rattle.std.specs.Prelude.{Ok, Err, Result}
 
 --------------------------------------------------------------------------------
 -- The best choice of a day with K kinds
@@ -64,7 +61,7 @@ one-best K i kinds = (
 )
 
 pub one-best-kinds :
-    (d : ℕ) (s : List ℕ) (l : Layout) → reading_kinds d s ≡ reading-is.Accepted l →
+    (d : ℕ) (s : List ℕ) (l : Layout) → reading_kinds d s ≡ Ok l →
     BestOf second_terms (instance_of s l) (best_row_in second_terms (instance_of s l))
     × ((X : ℕ → ℕ) → BestOf second_terms (instance_of s l) X → Agree l.rows X (best_row_in second_terms (instance_of s l)))
 one-best-kinds d s l is = one-best second_terms (instance_of s l) (second-kinds d s l is)
@@ -131,29 +128,29 @@ module _
 
 pub record ClosedKinds (d : ℕ) (s ch sheet t ch' sheet' t' : List ℕ) (a : KindTotals) : Type 0 where
   pub layout : Layout
-  pub accepted : reading_kinds d s ≡ reading-is.Accepted layout
+  pub accepted : reading_kinds d s ≡ Ok layout
   pub known : layout.day < days
   pub enough : Enough (network_of s layout) ch sheet t
   pub closes : ClosesIn second_terms (instance_of s layout) ch sheet t ch' sheet' t' (count_of a) a.kept a.total
 
-one-total : (r : SettledKinds) (a b : KindTotals) → r ≡ Closed a → r ≡ Closed b → a ≡ b
+one-total : (r : Result KindTotals Reason) (a b : KindTotals) → r ≡ Ok a → r ≡ Ok b → a ≡ b
 one-total r a b p q = cc
 
-not-refused : {A : Type 0} (r : SettledKinds) (why : Reason) (a : KindTotals) → r ≡ Refused why → r ≡ Closed a → A
+not-refused : {A : Type 0} (r : Result KindTotals Reason) (why : Reason) (a : KindTotals) → r ≡ Err why → r ≡ Ok a → A
 not-refused r why a p q =
     let z : ◌≡◌ {A = ℕ} 0 1 = cc in
     absurd (omega arith)
 
 module _
-    (d : ℕ) (s ch sheet t ch' sheet' t' : List ℕ) (r : SettledKinds) (S : SettlesKinds d s ch sheet t ch' sheet' t' r)
+    (d : ℕ) (s ch sheet t ch' sheet' t' : List ℕ) (r : Result KindTotals Reason) (S : SettlesKinds d s ch sheet t ch' sheet' t' r)
   where
     pub number-told : (settled_kinds_numbers r).refusal ≡ (told_kinds_for s (reading_kinds d s) ch sheet t).refusal
     number-told = ap (λ (x : SettleKindsAnswer). x.refusal) S.told
 
-    module _ (a : KindTotals) (is : r ≡ Closed a) where
+    module _ (a : KindTotals) (is : r ≡ Ok a) where
       judged : (x : Reading) → reading_kinds d s ≡ x → ClosedKinds d s ch sheet t ch' sheet' t' a
-      judged (reading-is.Refused why) p = not-refused r (File why) a (S.refused why p).0 is
-      judged (reading-is.Accepted l) p =
+      judged (Err why) p = not-refused r (File why) a (S.refused why p).0 is
+      judged (Ok l) p =
           let D = S.settled l p in
           let closed = closed-by one-total not-refused (network_of s l) l.day ch sheet t r
           (λ (x : KindTotals). ClosesIn second_terms (instance_of s l) ch sheet t ch' sheet' t' (count_of x) x.kept x.total)

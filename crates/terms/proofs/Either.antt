@@ -29,30 +29,28 @@ use Rattle.theory.proofs.BestLaws.{kept-agree, two-kinds}
 use Rattle.theory.proofs.KindsLaws.{best-wider, choice-wider}
 use Rattle.theory.proofs.TestLaws.{either}
 use Rattle.claimfile.specs.declared.Layout.{Layout}
-use Rattle.reader.specs.declared.Reading.{Reading}
-use Rattle.reader.specs.declared.Reading.TheVariants.{Accepted, Refused}
 use Rattle.claimfile.specs.File.{first_terms, second_terms, new_week, days}
-use Rattle.reader.specs.Reading.{reading, reading_kinds}
+use Rattle.reader.specs.Reading.{reading, reading_kinds, Reading}
 use Rattle.claimfile.specs.Day.{kind_of, limit_of, network_of, instance_of}
 use Rattle.claimfile.specs.Sound.{Kinds}
 use Rattle.reader.specs.Terms.{OfKinds}
 use Rattle.reader.proofs.AcceptedLaws.{one-layout, accepted-kinds}
 use Rattle.reader.proofs.TermsLaws.{either-reading, first-second}
 use Rattle.closing.specs.declared.Totals.{Totals}
-use Rattle.closing.specs.declared.Settled.{Settled}
 use Rattle.closing.specs.Settle.{settled_numbers, told_on, told_for, lacks, best_row_in, best_row, Closes, Settles}
 use Rattle.closing.specs.ClosesIn.{first_counts, ClosesIn}
 use Rattle.closing.proofs.ClosesLaws.{closes_in}
 use Rattle.closing.proofs.Demand.{ClosedDay, number-told}
 use Rattle.kinds.specs.declared.KindTotals.{KindTotals}
-use Rattle.kinds.specs.declared.SettledKinds.{SettledKinds}
 use Rattle.kinds.specs.Settle.{count_of, settled_kinds_numbers, told_kinds_on, told_kinds_for, SettlesKinds}
-use Rattle.limits.specs.declared.Ranked.{Ranked}
 use Rattle.limits.specs.Answers.{entered_by, entered_in, ranked_by, ranked_in, Answered, AnsweredKinds}
 use Rattle.terms.proofs.Demand as kinds-demand
 use Rattle.terms.proofs.Demand.{ClosedKinds}
+use Rattle.std.specs.Prelude.{Ok, Err, Result}
+use Rattle.sides.specs.declared.Found.{Found}
+use Rattle.refusal.specs.declared.Reason.{Reason}
 
-module _ (d : ℕ) (s : List ℕ) (l : Layout) (is : reading (new_week d) s ≡ Accepted l) where
+module _ (d : ℕ) (s : List ℕ) (l : Layout) (is : reading (new_week d) s ≡ Ok l) where
   two : Kinds first_terms s l
   two = accepted-kinds (new_week d) s l is
 
@@ -141,12 +139,12 @@ module _
         ]
 
     same_number : (s : List ℕ) (x : Reading) → (told_for s x ch₁ sheet₁ t₁).refusal ≡ (told_kinds_for s x ch₂ sheet₂ t₂).refusal
-    same_number s (Refused why) = refl
-    same_number s (Accepted l) = same-on (instance_of s l) l.day
+    same_number s (Err why) = refl
+    same_number s (Ok l) = same-on (instance_of s l) l.day
 
     pub either_number :
         (d : ℕ) (s : List ℕ) → OfKinds first_terms (new_week d) s →
-        (ch₁' sheet₁' t₁' ch₂' sheet₂' t₂' : List ℕ) (p : Settled) (q : SettledKinds) →
+        (ch₁' sheet₁' t₁' ch₂' sheet₂' t₂' : List ℕ) (p : Result Totals Reason) (q : Result KindTotals Reason) →
         Settles (new_week d) s ch₁ sheet₁ t₁ ch₁' sheet₁' t₁' p → SettlesKinds d s ch₂ sheet₂ t₂ ch₂' sheet₂' t₂' q →
         (settled_numbers p).refusal ≡ (settled_kinds_numbers q).refusal
     either_number d s few ch₁' sheet₁' t₁' ch₂' sheet₂' t₂' p q S T =
@@ -155,7 +153,7 @@ module _
         ∙ sym (kinds-demand.number-told d s ch₂ sheet₂ t₂ ch₂' sheet₂' t₂' q T)
 
 pub either-ranked :
-    (d : ℕ) (s : List ℕ) → OfKinds first_terms (new_week d) s → (sel : List ℕ) (side : ℕ) (p q : Ranked) →
+    (d : ℕ) (s : List ℕ) → OfKinds first_terms (new_week d) s → (sel : List ℕ) (side : ℕ) (p q : Result Found Reason) →
     Answered (new_week d) s sel side p → AnsweredKinds d s sel side q → p ≡ q
 unfolding ranked_in entered_in
 either-ranked d s few sel side p q A B =

@@ -5,7 +5,7 @@
 --                          kind and in all, its weight, and whether the sheet certifies it
 -- Bytes are hexadecimal, other figures decimal. A file has one line for each count and record. Cards c0, c1 and shop groups s0, s1 are
 -- at the top with limit 1 on every day unless said. Marks not named are 0. With N rows, one of kind k weighs N + 1 to the power k.
-use Rattle.std.specs.Prelude.{Bool, true, ◌&&◌, List, [], ◌∷◌, map, ℕ, ◌+◌, ◌^◌, length, leb, eqb}
+use Rattle.std.specs.Prelude.{Bool, true, ◌&&◌, List, [], ◌∷◌, map, ℕ, ◌+◌, ◌^◌, length, leb, eqb, Ok, Err}
 use Rattle.theory.specs.Sum.{every}
 use Rattle.theory.specs.Incidence.{size, charge, total, worth}
 use Rattle.theory.specs.Network.{Instance, on_both}
@@ -13,11 +13,9 @@ use Rattle.theory.specs.Matroid.{row}
 use Rattle.theory.specs.Priority.{kept, weight_of}
 use Rattle.theory.specs.Search.{best_choice}
 use Rattle.claimfile.specs.File.{second_terms}
-use Rattle.reader.specs.Reading.{reading_kinds}
+use Rattle.reader.specs.Reading.{reading_kinds, Reading}
 use Rattle.claimfile.specs.Day.{instance_of}
 use Rattle.reader.specs.declared.Refusal.{Refusal}
-use Rattle.reader.specs.declared.Reading.{Reading}
-use Rattle.reader.specs.declared.Reading.TheVariants.{Accepted, Refused}
 
 pub record KindClosing : Type 0 where
   -- 1 for each kept row, 0 for each other
@@ -67,8 +65,8 @@ settled_kinds i sheet =
     (certified i choice sheet)
 
 abbrev pub after_reading : Reading → KindDay → Outcome
-after_reading (Refused why) d = refused why
-after_reading (Accepted l) d = settled_kinds (instance_of d.file l) d.sheet
+after_reading (Err why) d = refused why
+after_reading (Ok l) d = settled_kinds (instance_of d.file l) d.sheet
 
 abbrev pub outcome_of : KindDay → Outcome
 outcome_of d = after_reading (reading_kinds d.day d.file) d

@@ -1,7 +1,6 @@
 -- Laws of appending bytes to a lent buffer.
 --   sets_then              writing two runs of bytes is writing both as one
 --   none                   no byte
---   one, one-past          one byte, within the buffer and past its end
 --   then                   two appends are one
 --   kept-length            an append keeps the buffer's length
 --   whole, short           a text that was put into any other buffer, at its start, and ended at m: put at the start of a buffer of m
@@ -13,7 +12,7 @@ use mathlib.Core.List.{List, [], ◌∷◌, ◌++◌}
 use native.Mathlib.Nat.{add-zero, add-suc, suc-add}
 use native.Mathlib.Omega.{arith}
 use lib.ListN.{length, take, drop, set, length-append}
-use lib.Seq.{sets, sets-eq, length-sets, set_out, take_at, drop_at}
+use lib.Seq.{sets, sets-eq, length-sets, take_at, drop_at}
 use Rattle.text.specs.Buffer.{Appended, Written}
 
 sets_then : (a b out : List ℕ) (at : ℕ) → sets (sets out at a) (at + length a) b ≡ sets out at (a ++ b)
@@ -22,12 +21,6 @@ sets_then (x ∷ a) b out at = rw (add-suc, ← suc-add) (sets_then a b (set out
 
 pub none : (out : List ℕ) (at : ℕ) → Appended out out at at []
 none out at = record { cells = refl; end = sym (add-zero at) }
-
-pub one : (out : List ℕ) (at x : ℕ) → Appended out (set out at x) at (at + 1) (x ∷ [])
-one out at x = record { cells = refl; end = refl }
-
-pub one-past : (out : List ℕ) (at x : ℕ) → length out ≤ at → Appended out out at (at + 1) (x ∷ [])
-one-past out at x h = record { cells = sym (set_out out at x h); end = refl }
 
 pub then : {out mid out' : List ℕ} {at m n : ℕ} {a b : List ℕ} → Appended out mid at m a → Appended mid out' m n b
     → Appended out out' at n (a ++ b)

@@ -4,6 +4,7 @@
 // put next begins there. The answer does not depend on the buffer's length: on a buffer that is too short it still tells how long
 // the text is. So whoever has to write a whole text or none first puts it into one cell of no use, compares the answer with the
 // length of the real buffer, and then puts it there or leaves the buffer alone. The laws `whole` and `short` say what comes of it.
+// stays: the place beside the buffer may not go into a struct: `put` to `put_spread` are public and promise `Appended` of the lent slice.
 #![tactic(auto)]
 
 ghost use Rattle.std.specs.Prelude.{◌≡◌, [], ◌∷◌, ◌++◌, ◌-◌};
@@ -29,10 +30,8 @@ pub fn put_word(at: usize, word: &[u8], out: &mut [u8]) -> usize
     ensures { Appended out.old out.new at result word.now }
 {
     let mut next = at;
-    let mut i = 0;
-    while i < word.len() {
-        next = put(next, word[i], out);
-        i += 1;
+    for byte in word {
+        next = put(next, *byte, out);
     }
     next
 }
@@ -66,26 +65,14 @@ pub fn put_line(at: usize, word: &[u8], n: u64, out: &mut [u8]) -> usize
     put(next, b'\n', out)
 }
 
-// How many of `width` places are left beside `used`.
-fn gap(width: usize, used: usize) -> usize
-    ensures { result ≡ width - used }
-{
-    if width <= used {
-        return 0;
-    }
-    width - used
-}
-
 // `n` blanks.
 fn put_blanks(at: usize, n: usize, out: &mut [u8]) -> usize
     requires { Room at (blanks n) }
     ensures { Appended out.old out.new at result (blanks n) }
 {
     let mut next = at;
-    let mut i = 0;
-    while i < n {
+    for _ in 0..n {
         next = put(next, b' ', out);
-        i += 1;
     }
     next
 }
@@ -95,13 +82,13 @@ pub fn put_right(at: usize, width: usize, n: u64, out: &mut [u8]) -> usize
     requires { Room at (at_right width (decimal n)) }
     ensures { Appended out.old out.new at result (at_right width (decimal n)) }
 {
-    let rest = gap(width, 1);
+    let rest = width.saturating_sub(1);
     if n < 10 {
         let next = put_blanks(at, rest, out);
-        return put(next, 48 + n as u8, out);
+        return put(next, b'0' + n as u8, out);
     }
     let next = put_right(at, rest, n / 10, out);
-    put(next, 48 + (n % 10) as u8, out)
+    put(next, b'0' + (n % 10) as u8, out)
 }
 
 // The decimal digits of `n`.
@@ -118,5 +105,5 @@ pub fn put_spread(at: usize, width: usize, word: &[u8], n: u64, out: &mut [u8]) 
     ensures { Appended out.old out.new at result (spread width word.now (decimal n)) }
 {
     let next = put_word(at, word, out);
-    put_right(next, gap(width, word.len()), n, out)
+    put_right(next, width.saturating_sub(word.len()), n, out)
 }

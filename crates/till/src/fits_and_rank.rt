@@ -1,30 +1,11 @@
 // The calls that tell whether a selection fits a side, and its rank there.
-ghost use Rattle.claimfile.specs.File.{form_of, new_week, stored_week, new_old, stored_old};
+ghost use Rattle.claimfile.specs.File.{new_week, stored_week, new_old, stored_old};
 ghost use Rattle.till.specs.Calls.{FitsAndRankIs};
 
+use super::{new_old, new_week, stored_old, stored_week};
 use answers::FitsAndRankAnswer;
-use claimfile::Form;
 use limits::fits_and_rank;
 use numbers::ranked_numbers;
-
-// For any sort of file.
-fn fits_and_rank_as(
-    file: &[u8],
-    week: bool,
-    stored: bool,
-    day: u32,
-    selection: &[u8],
-    side: u32,
-) -> FitsAndRankAnswer
-    ensures { FitsAndRankIs (form_of week stored day) file.now selection.now side result }
-{
-    let form = Form {
-        week,
-        stored,
-        day: day as usize,
-    };
-    ranked_numbers(fits_and_rank(file, form, selection, side as usize))
-}
 
 // Whether a selection fits a side (0 card, 1 shop) by the limits of a day, and its rank there.
 #[unsafe(no_mangle)]
@@ -36,7 +17,7 @@ pub extern "C" fn claims_fits_and_rank(
 ) -> FitsAndRankAnswer
     ensures { FitsAndRankIs (new_week day) file.now selection.now side result }
 {
-    fits_and_rank_as(file, true, false, day, selection, side)
+    ranked_numbers(fits_and_rank(file, new_week(day), selection, side as usize))
 }
 
 // The same for a stored file.
@@ -49,7 +30,7 @@ pub extern "C" fn claims_fits_and_rank_stored(
 ) -> FitsAndRankAnswer
     ensures { FitsAndRankIs (stored_week day) file.now selection.now side result }
 {
-    fits_and_rank_as(file, true, true, day, selection, side)
+    ranked_numbers(fits_and_rank(file, stored_week(day), selection, side as usize))
 }
 
 // The same for a file in the old layout.
@@ -62,7 +43,7 @@ pub extern "C" fn claims_fits_and_rank_old(
 ) -> FitsAndRankAnswer
     ensures { FitsAndRankIs (new_old day) file.now selection.now side result }
 {
-    fits_and_rank_as(file, false, false, day, selection, side)
+    ranked_numbers(fits_and_rank(file, new_old(day), selection, side as usize))
 }
 
 // The same for a stored file in the old layout.
@@ -75,5 +56,5 @@ pub extern "C" fn claims_fits_and_rank_old_stored(
 ) -> FitsAndRankAnswer
     ensures { FitsAndRankIs (stored_old day) file.now selection.now side result }
 {
-    fits_and_rank_as(file, false, true, day, selection, side)
+    ranked_numbers(fits_and_rank(file, stored_old(day), selection, side as usize))
 }

@@ -1,31 +1,11 @@
 // The calls that settle a file.
-ghost use Rattle.claimfile.specs.File.{form_of, new_week, stored_week, new_old, stored_old};
+ghost use Rattle.claimfile.specs.File.{new_week, stored_week, new_old, stored_old};
 ghost use Rattle.till.specs.Calls.{SettleIs};
 
+use super::{new_old, new_week, stored_old, stored_week};
 use answers::SettleAnswer;
-use claimfile::Form;
 use closing::settle;
 use numbers::settled_numbers;
-
-// For any sort of file.
-fn settle_as(
-    file: &[u8],
-    week: bool,
-    stored: bool,
-    day: u32,
-    choice: &mut [u8],
-    sheet: &mut [u32],
-    scratch: &mut [u32],
-) -> SettleAnswer
-    ensures { SettleIs (form_of week stored day) file.now choice.old sheet.old scratch.old choice.new sheet.new scratch.new result }
-{
-    let form = Form {
-        week,
-        stored,
-        day: day as usize,
-    };
-    settled_numbers(settle(file, form, choice, sheet, scratch))
-}
 
 // Settles a file by the limits of a day: leaves the best choice and the marks, and clears the scratch.
 #[unsafe(no_mangle)]
@@ -38,7 +18,7 @@ pub extern "C" fn claims_settle(
 ) -> SettleAnswer
     ensures { SettleIs (new_week day) file.now choice.old sheet.old scratch.old choice.new sheet.new scratch.new result }
 {
-    settle_as(file, true, false, day, choice, sheet, scratch)
+    settled_numbers(settle(file, new_week(day), choice, sheet, scratch))
 }
 
 // The same for a stored file.
@@ -52,7 +32,7 @@ pub extern "C" fn claims_settle_stored(
 ) -> SettleAnswer
     ensures { SettleIs (stored_week day) file.now choice.old sheet.old scratch.old choice.new sheet.new scratch.new result }
 {
-    settle_as(file, true, true, day, choice, sheet, scratch)
+    settled_numbers(settle(file, stored_week(day), choice, sheet, scratch))
 }
 
 // The same for a file in the old layout.
@@ -66,7 +46,7 @@ pub extern "C" fn claims_settle_old(
 ) -> SettleAnswer
     ensures { SettleIs (new_old day) file.now choice.old sheet.old scratch.old choice.new sheet.new scratch.new result }
 {
-    settle_as(file, false, false, day, choice, sheet, scratch)
+    settled_numbers(settle(file, new_old(day), choice, sheet, scratch))
 }
 
 // The same for a stored file in the old layout.
@@ -80,5 +60,5 @@ pub extern "C" fn claims_settle_old_stored(
 ) -> SettleAnswer
     ensures { SettleIs (stored_old day) file.now choice.old sheet.old scratch.old choice.new sheet.new scratch.new result }
 {
-    settle_as(file, false, true, day, choice, sheet, scratch)
+    settled_numbers(settle(file, stored_old(day), choice, sheet, scratch))
 }

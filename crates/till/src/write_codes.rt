@@ -1,30 +1,11 @@
 // The calls that tell what holds each earned row.
-ghost use Rattle.claimfile.specs.File.{form_of, new_week, stored_week, new_old, stored_old};
+ghost use Rattle.claimfile.specs.File.{new_week, stored_week, new_old, stored_old};
 ghost use Rattle.till.specs.Calls.{CodesAre};
 
+use super::{new_old, new_week, stored_old, stored_week};
 use answers::WriteAnswer;
-use claimfile::Form;
 use codes::write_codes;
 use numbers::written_numbers;
-
-// For any sort of file.
-fn write_codes_as(
-    file: &[u8],
-    week: bool,
-    stored: bool,
-    day: u32,
-    codes: &mut [u8],
-    scratch: &mut [u32],
-) -> WriteAnswer
-    ensures { CodesAre (form_of week stored day) file.now codes.old scratch.old codes.new scratch.new result }
-{
-    let form = Form {
-        week,
-        stored,
-        day: day as usize,
-    };
-    written_numbers(write_codes(file, form, codes, scratch))
-}
 
 // Writes the code of each row, which tells what holds an earned row by the limits of a day, and clears the scratch.
 #[unsafe(no_mangle)]
@@ -36,7 +17,7 @@ pub extern "C" fn claims_write_codes(
 ) -> WriteAnswer
     ensures { CodesAre (new_week day) file.now codes.old scratch.old codes.new scratch.new result }
 {
-    write_codes_as(file, true, false, day, codes, scratch)
+    written_numbers(write_codes(file, new_week(day), codes, scratch))
 }
 
 // The same for a stored file.
@@ -49,7 +30,7 @@ pub extern "C" fn claims_write_codes_stored(
 ) -> WriteAnswer
     ensures { CodesAre (stored_week day) file.now codes.old scratch.old codes.new scratch.new result }
 {
-    write_codes_as(file, true, true, day, codes, scratch)
+    written_numbers(write_codes(file, stored_week(day), codes, scratch))
 }
 
 // The same for a file in the old layout.
@@ -62,7 +43,7 @@ pub extern "C" fn claims_write_codes_old(
 ) -> WriteAnswer
     ensures { CodesAre (new_old day) file.now codes.old scratch.old codes.new scratch.new result }
 {
-    write_codes_as(file, false, false, day, codes, scratch)
+    written_numbers(write_codes(file, new_old(day), codes, scratch))
 }
 
 // The same for a stored file in the old layout.
@@ -75,5 +56,5 @@ pub extern "C" fn claims_write_codes_old_stored(
 ) -> WriteAnswer
     ensures { CodesAre (stored_old day) file.now codes.old scratch.old codes.new scratch.new result }
 {
-    write_codes_as(file, false, true, day, codes, scratch)
+    written_numbers(write_codes(file, stored_old(day), codes, scratch))
 }

@@ -12,7 +12,6 @@ mod walk;
 mod ways;
 
 ghost use Rattle.std.specs.Prelude.{◌+◌};
-ghost use Rattle.scratch.specs.Memory.{memory};
 ghost use Rattle.scratch.specs.Map.{queue_of, Room};
 ghost use Rattle.scratch.specs.View.{residual_of};
 ghost use Rattle.walks.specs.Walk.{Ahead, Begun, Turn, Ran, Rewound, Round};
@@ -20,6 +19,7 @@ ghost use Rattle.walks.specs.Walk.{Ahead, Begun, Turn, Ran, Rewound, Round};
 use entries::{first, set_queue};
 use paths::flip::flip;
 use scratch::Shape;
+use scratch::cells::Width;
 use search::refresh;
 use walk::walk;
 
@@ -31,91 +31,55 @@ pub struct Way {
 }
 
 // Each node's next item is its first.
-fn rewind(sh: Shape, wide: bool, scratch: &mut [u32], scratch64: &mut [u64])
-    requires { Room sh (memory wide scratch.old scratch64.old) }
-    ensures { let scratch₀ = memory wide scratch.old scratch64.old in
-        let scratch' = memory wide scratch.new scratch64.new in
-        Rewound sh scratch₀ scratch' (sh.groups + 2) }
+fn rewind<W: Width>(sh: Shape, scratch: &mut [W])
+    requires { Room sh (W.memory scratch.old) }
+    ensures { Rewound sh (W.memory scratch.old) (W.memory scratch.new) (sh.groups + 2) }
 {
     let g = sh.groups;
     for v in 0..g + 2 {
-        let j = first(sh, v, wide, scratch, scratch64);
-        set_queue(sh, v, j, wide, scratch, scratch64);
+        let j = first(sh, v, scratch);
+        set_queue(sh, v, j, scratch);
     }
 }
 
 // Makes one walk. Where it comes to the sink, turns the path and makes every node fresh again. Answers whether it came there.
-fn turn_next(
-    sh: Shape,
-    choice: &mut [u8],
-    wide: bool,
-    sheet: &[u32],
-    sheet64: &[u64],
-    scratch: &mut [u32],
-    scratch64: &mut [u64],
-) -> bool
-    requires begun { Begun sh choice.old (memory wide sheet.now sheet64.now) (memory wide scratch.old scratch64.old) }
-    requires ahead { Ahead (residual_of sh (memory wide sheet.now sheet64.now) (memory wide scratch.old scratch64.old)) (queue_of sh (memory wide scratch.old scratch64.old)) }
-    ensures { let sheet₀ = memory wide sheet.now sheet64.now in
-        let scratch₀ = memory wide scratch.old scratch64.old in
-        let scratch' = memory wide scratch.new scratch64.new in
-        Turn sh choice.old sheet₀ scratch₀ choice.new scratch' result }
+fn turn_next<W: Width>(sh: Shape, choice: &mut [u8], sheet: &[W], scratch: &mut [W]) -> bool
+    requires begun { Begun sh choice.old (W.memory sheet.now) (W.memory scratch.old) }
+    requires ahead { Ahead (residual_of sh (W.memory sheet.now) (W.memory scratch.old)) (queue_of sh (W.memory scratch.old)) }
+    ensures { Turn sh choice.old (W.memory sheet.now) (W.memory scratch.old) choice.new (W.memory scratch.new) result }
 {
     let source = sh.groups;
     let sink = source + 1;
-    if walk(sh, choice, wide, sheet, sheet64, scratch, scratch64) {
-        flip(
-            sh, source, sink, choice, wide, sheet, sheet64, scratch, scratch64,
-        );
-        refresh(sh, wide, scratch, scratch64);
+    if walk(sh, choice, sheet, scratch) {
+        flip(sh, source, sink, choice, sheet, scratch);
+        refresh(sh, scratch);
         return true;
     }
     false
 }
 
 // Makes walks and turns their paths until one does not come to the sink.
-fn turn_all(
-    sh: Shape,
-    choice: &mut [u8],
-    wide: bool,
-    sheet: &[u32],
-    sheet64: &[u64],
-    scratch: &mut [u32],
-    scratch64: &mut [u64],
-)
-    requires begun { Begun sh choice.old (memory wide sheet.now sheet64.now) (memory wide scratch.old scratch64.old) }
-    requires ahead { Ahead (residual_of sh (memory wide sheet.now sheet64.now) (memory wide scratch.old scratch64.old)) (queue_of sh (memory wide scratch.old scratch64.old)) }
-    ensures { let sheet₀ = memory wide sheet.now sheet64.now in
-        let scratch₀ = memory wide scratch.old scratch64.old in
-        let scratch' = memory wide scratch.new scratch64.new in
-        Ran sh choice.old sheet₀ scratch₀ choice.new scratch' }
+fn turn_all<W: Width>(sh: Shape, choice: &mut [u8], sheet: &[W], scratch: &mut [W])
+    requires begun { Begun sh choice.old (W.memory sheet.now) (W.memory scratch.old) }
+    requires ahead { Ahead (residual_of sh (W.memory sheet.now) (W.memory scratch.old)) (queue_of sh (W.memory scratch.old)) }
+    ensures { Ran sh choice.old (W.memory sheet.now) (W.memory scratch.old) choice.new (W.memory scratch.new) }
 {
     let mut more = true;
+    // stays: the loop ends where a walk fails, and no index counts the walks
     while more {
-        more = turn_next(sh, choice, wide, sheet, sheet64, scratch, scratch64);
+        more = turn_next(sh, choice, sheet, scratch);
     }
 }
 
 // One round. Answers whether it turned a path; where it did not, there is none.
-pub fn turn_more(
-    sh: Shape,
-    choice: &mut [u8],
-    wide: bool,
-    sheet: &[u32],
-    sheet64: &[u64],
-    scratch: &mut [u32],
-    scratch64: &mut [u64],
-) -> bool
-    requires { Begun sh choice.old (memory wide sheet.now sheet64.now) (memory wide scratch.old scratch64.old) }
-    ensures { let sheet₀ = memory wide sheet.now sheet64.now in
-        let scratch₀ = memory wide scratch.old scratch64.old in
-        let scratch' = memory wide scratch.new scratch64.new in
-        Round sh choice.old sheet₀ scratch₀ choice.new scratch' result }
+pub fn turn_more<W: Width>(sh: Shape, choice: &mut [u8], sheet: &[W], scratch: &mut [W]) -> bool
+    requires { Begun sh choice.old (W.memory sheet.now) (W.memory scratch.old) }
+    ensures { Round sh choice.old (W.memory sheet.now) (W.memory scratch.old) choice.new (W.memory scratch.new) result }
 {
-    rewind(sh, wide, scratch, scratch64);
-    if turn_next(sh, choice, wide, sheet, sheet64, scratch, scratch64) {
-        turn_all(sh, choice, wide, sheet, sheet64, scratch, scratch64);
-        refresh(sh, wide, scratch, scratch64);
+    rewind(sh, scratch);
+    if turn_next(sh, choice, sheet, scratch) {
+        turn_all(sh, choice, sheet, scratch);
+        refresh(sh, scratch);
         return true;
     }
     false

@@ -1,6 +1,5 @@
 // Ways on from a node: open arcs to fresh nodes. Cell v of the queue is the item of node v that is looked along next.
 ghost use Rattle.std.specs.Prelude.{◌≡◌, true, false, ◌+◌, ◌<◌, ltb, eqb};
-ghost use Rattle.scratch.specs.Memory.{memory};
 ghost use Rattle.scratch.specs.Map.{label_of, parent_of, Room};
 ghost use Rattle.scratch.specs.View.{net_of, residual_of};
 ghost use Rattle.residual.specs.State.{Ready};
@@ -12,170 +11,131 @@ use super::Way;
 use entries::{card, kept, label, parent, price, queue, set_queue, shop, spare};
 use residual::lists::after;
 use scratch::Shape;
+use scratch::cells::Width;
 
 // Whether node v is fresh.
-fn is_fresh(sh: Shape, v: usize, wide: bool, scratch: &[u32], scratch64: &[u64]) -> bool
-    requires room { Room sh (memory wide scratch.now scratch64.now) }
+fn is_fresh<W: Width>(sh: Shape, v: usize, scratch: &[W]) -> bool
+    requires room { Room sh (W.memory scratch.now) }
     requires v_bound { v < sh.groups + 2 }
-    ensures { result ≡ eqb (label_of sh (memory wide scratch.now scratch64.now) v) sh.fresh }
+    ensures { result ≡ eqb (label_of sh (W.memory scratch.now) v) sh.fresh }
 {
     let fresh = sh.fresh;
-    label(sh, v, wide, scratch, scratch64) == fresh
+    label(sh, v, scratch) == fresh
 }
 
 // Whether there is a way from node u down to its child v, which has the price of u.
-fn goes_down(
+fn goes_down<W: Width>(
     sh: Shape,
     u: usize,
     v: usize,
     choice: &[u8],
-    wide: bool,
-    sheet: &[u32],
-    sheet64: &[u64],
-    scratch: &[u32],
-    scratch64: &[u64],
+    sheet: &[W],
+    scratch: &[W],
 ) -> bool
-    requires ready { Ready sh choice.now (memory wide sheet.now sheet64.now) (memory wide scratch.now scratch64.now) }
-    requires child_item { ChildItem (residual_of sh (memory wide sheet.now sheet64.now) (memory wide scratch.now scratch64.now)) u (sh.rows + v) }
-    ensures { let sheet₀ = memory wide sheet.now sheet64.now in
-        let scratch₀ = memory wide scratch.now scratch64.now in
-        GoesOf sh choice.now sheet₀ scratch₀ (fall_at (net_of sh scratch₀) false v) u result }
+    requires ready { Ready sh choice.now (W.memory sheet.now) (W.memory scratch.now) }
+    requires child_item { ChildItem (residual_of sh (W.memory sheet.now) (W.memory scratch.now)) u (sh.rows + v) }
+    ensures { GoesOf sh choice.now (W.memory sheet.now) (W.memory scratch.now) (fall_at (net_of sh (W.memory scratch.now)) false v) u result }
 {
     let cards = sh.cards;
-    if is_fresh(sh, v, wide, scratch, scratch64) {
-        return (cards <= v) | (spare(sh, v, wide, scratch, scratch64) != 0);
+    if is_fresh(sh, v, scratch) {
+        return (cards <= v) | (spare(sh, v, scratch) != 0);
     }
     false
 }
 
 // Whether there is a way from group u up to its parent v.
-fn goes_up(
+fn goes_up<W: Width>(
     sh: Shape,
     u: usize,
     v: usize,
     choice: &[u8],
-    wide: bool,
-    sheet: &[u32],
-    sheet64: &[u64],
-    scratch: &[u32],
-    scratch64: &[u64],
+    sheet: &[W],
+    scratch: &[W],
 ) -> bool
-    requires ready { Ready sh choice.now (memory wide sheet.now sheet64.now) (memory wide scratch.now scratch64.now) }
-    requires u_lt_groups { (u < sh.groups) × (v ≡ parent_of sh (memory wide scratch.now scratch64.now) u) }
-    ensures { let sheet₀ = memory wide sheet.now sheet64.now in
-        let scratch₀ = memory wide scratch.now scratch64.now in
-        GoesOf sh choice.now sheet₀ scratch₀ (rise_at (net_of sh scratch₀) false u) u result }
+    requires ready { Ready sh choice.now (W.memory sheet.now) (W.memory scratch.now) }
+    requires u_lt_groups { (u < sh.groups) × (v ≡ parent_of sh (W.memory scratch.now) u) }
+    ensures { GoesOf sh choice.now (W.memory sheet.now) (W.memory scratch.now) (rise_at (net_of sh (W.memory scratch.now)) false u) u result }
 {
     let cards = sh.cards;
-    if is_fresh(sh, v, wide, scratch, scratch64) {
-        let room = (u < cards) | (spare(sh, u, wide, scratch, scratch64) != 0);
+    if is_fresh(sh, v, scratch) {
+        let room = (u < cards) | (spare(sh, u, scratch) != 0);
         if room {
-            return price(sh, u, wide, sheet, sheet64) == price(sh, v, wide, sheet, sheet64);
+            return price(sh, u, sheet) == price(sh, v, sheet);
         }
     }
     false
 }
 
 // Whether there is a way along item j of node u.
-fn goes_along(
+fn goes_along<W: Width>(
     sh: Shape,
     u: usize,
     j: usize,
     choice: &[u8],
-    wide: bool,
-    sheet: &[u32],
-    sheet64: &[u64],
-    scratch: &[u32],
-    scratch64: &[u64],
+    sheet: &[W],
+    scratch: &[W],
 ) -> bool
-    requires ready { Ready sh choice.now (memory wide sheet.now sheet64.now) (memory wide scratch.now scratch64.now) }
-    requires at_item { AtItem sh (memory wide sheet.now sheet64.now) (memory wide scratch.now scratch64.now) u j }
-    ensures { let sheet₀ = memory wide sheet.now sheet64.now in
-        let scratch₀ = memory wide scratch.now scratch64.now in
-        GoesOf sh choice.now sheet₀ scratch₀ (arc_at (net_of sh scratch₀) false j) u result }
+    requires ready { Ready sh choice.now (W.memory sheet.now) (W.memory scratch.now) }
+    requires at_item { AtItem sh (W.memory sheet.now) (W.memory scratch.now) u j }
+    ensures { GoesOf sh choice.now (W.memory sheet.now) (W.memory scratch.now) (arc_at (net_of sh (W.memory scratch.now)) false j) u result }
 {
     let rows = sh.rows;
     if rows <= j {
-        return goes_down(
-            sh,
-            u,
-            j - rows,
-            choice,
-            wide,
-            sheet,
-            sheet64,
-            scratch,
-            scratch64,
-        );
+        return goes_down(sh, u, j - rows, choice, sheet, scratch);
     }
-    let a = card(sh, j, wide, scratch, scratch64);
+    let a = card(sh, j, scratch);
     if a == u {
         if kept(j, choice) == 0 {
-            return is_fresh(
-                sh,
-                shop(sh, j, wide, scratch, scratch64),
-                wide,
-                scratch,
-                scratch64,
-            );
+            return is_fresh(sh, shop(sh, j, scratch), scratch);
         }
         return false;
     }
     if kept(j, choice) == 1 {
-        return is_fresh(sh, a, wide, scratch, scratch64);
+        return is_fresh(sh, a, scratch);
     }
     false
 }
 
 // The first item from j on at node u along which there is a way.
-fn open_item(
+fn open_item<W: Width>(
     sh: Shape,
     u: usize,
     j: usize,
     choice: &[u8],
-    wide: bool,
-    sheet: &[u32],
-    sheet64: &[u64],
-    scratch: &[u32],
-    scratch64: &[u64],
+    sheet: &[W],
+    scratch: &[W],
 ) -> usize
-    requires standing { Standing sh choice.now (memory wide sheet.now sheet64.now) (memory wide scratch.now scratch64.now) u }
-    requires pointed { Pointed (residual_of sh (memory wide sheet.now sheet64.now) (memory wide scratch.now scratch64.now)) u j }
-    ensures { let sheet₀ = memory wide sheet.now sheet64.now in
-        let scratch₀ = memory wide scratch.now scratch64.now in
-        Opened sh choice.now sheet₀ scratch₀ u j result }
+    requires standing { Standing sh choice.now (W.memory sheet.now) (W.memory scratch.now) u }
+    requires pointed { Pointed (residual_of sh (W.memory sheet.now) (W.memory scratch.now)) u j }
+    ensures { Opened sh choice.now (W.memory sheet.now) (W.memory scratch.now) u j result }
 {
     let g = sh.groups;
     let rows = sh.rows;
     let end = rows + g;
     let mut i = j;
+    // stays: the items of a node are a linked list, and the next item is read from the scratch
     while i < end {
-        if goes_along(sh, u, i, choice, wide, sheet, sheet64, scratch, scratch64) {
+        if goes_along(sh, u, i, choice, sheet, scratch) {
             return i;
         }
-        i = after(sh, u, i, wide, sheet, sheet64, scratch, scratch64);
+        i = after(sh, u, i, sheet, scratch);
     }
     i
 }
 
 // The way along item j of node u, where there is one.
-fn way_along(
+fn way_along<W: Width>(
     sh: Shape,
     u: usize,
     j: usize,
     choice: &[u8],
-    wide: bool,
-    sheet: &[u32],
-    sheet64: &[u64],
-    scratch: &[u32],
-    scratch64: &[u64],
+    sheet: &[W],
+    scratch: &[W],
 ) -> Way
-    requires standing { Standing sh choice.now (memory wide sheet.now sheet64.now) (memory wide scratch.now scratch64.now) u }
-    requires at_item { AtItem sh (memory wide sheet.now sheet64.now) (memory wide scratch.now scratch64.now) u j }
-    requires fresh_of { FreshOf sh choice.now (memory wide sheet.now sheet64.now) (memory wide scratch.now scratch64.now) (arc_at (net_of sh (memory wide scratch.now scratch64.now)) false j) u }
-    ensures { let sheet₀ = memory wide sheet.now sheet64.now in
-        let scratch₀ = memory wide scratch.now scratch64.now in
-        Onto sh choice.now sheet₀ scratch₀ u result.by result.to }
+    requires standing { Standing sh choice.now (W.memory sheet.now) (W.memory scratch.now) u }
+    requires at_item { AtItem sh (W.memory sheet.now) (W.memory scratch.now) u j }
+    requires fresh_of { FreshOf sh choice.now (W.memory sheet.now) (W.memory scratch.now) (arc_at (net_of sh (W.memory scratch.now)) false j) u }
+    ensures { Onto sh choice.now (W.memory sheet.now) (W.memory scratch.now) u result.by result.to }
 {
     let g = sh.groups;
     let rows = sh.rows;
@@ -185,39 +145,34 @@ fn way_along(
             to: j - rows,
         };
     }
-    let a = card(sh, j, wide, scratch, scratch64);
+    let a = card(sh, j, scratch);
     if a == u {
         return Way {
             by: g + j,
-            to: shop(sh, j, wide, scratch, scratch64),
+            to: shop(sh, j, scratch),
         };
     }
     Way { by: g + j, to: a }
 }
 
 // The way up from node u, where `rises` holds and there is one.
-fn way_up(
+fn way_up<W: Width>(
     sh: Shape,
     u: usize,
     rises: bool,
     choice: &[u8],
-    wide: bool,
-    sheet: &[u32],
-    sheet64: &[u64],
-    scratch: &[u32],
-    scratch64: &[u64],
+    sheet: &[W],
+    scratch: &[W],
 ) -> Way
-    requires standing { Standing sh choice.now (memory wide sheet.now sheet64.now) (memory wide scratch.now scratch64.now) u }
+    requires standing { Standing sh choice.now (W.memory sheet.now) (W.memory scratch.now) u }
     requires u_lt_groups { rises ≡ true → u < sh.groups }
-    ensures { let sheet₀ = memory wide sheet.now sheet64.now in
-        let scratch₀ = memory wide scratch.now scratch64.now in
-        WaysOf sh choice.now sheet₀ scratch₀ u (Rising sh false u rises) result.by result.to }
+    ensures { WaysOf sh choice.now (W.memory sheet.now) (W.memory scratch.now) u (Rising sh false u rises) result.by result.to }
 {
     let g = sh.groups;
     let rows = sh.rows;
     if rises {
-        let v = parent(sh, u, wide, scratch, scratch64);
-        if goes_up(sh, u, v, choice, wide, sheet, sheet64, scratch, scratch64) {
+        let v = parent(sh, u, scratch);
+        if goes_up(sh, u, v, choice, sheet, scratch) {
             return Way {
                 by: g + rows + u,
                 to: v,
@@ -228,21 +183,18 @@ fn way_up(
 }
 
 // The way along item j of node u, where it is an item; else of a card the way up.
-fn way_from(
+fn way_from<W: Width>(
     sh: Shape,
     u: usize,
     j: usize,
     choice: &[u8],
-    wide: bool,
-    sheet: &[u32],
-    sheet64: &[u64],
-    scratch: &[u32],
-    scratch64: &[u64],
+    sheet: &[W],
+    scratch: &[W],
 ) -> Way
-    requires standing { Standing sh choice.now (memory wide sheet.now sheet64.now) (memory wide scratch.now scratch64.now) u }
-    requires chosen { Chosen sh choice.now (memory wide sheet.now sheet64.now) (memory wide scratch.now scratch64.now) u j }
-    ensures { let sheet₀ = memory wide sheet.now sheet64.now in
-        let scratch₀ = memory wide scratch.now scratch64.now in
+    requires standing { Standing sh choice.now (W.memory sheet.now) (W.memory scratch.now) u }
+    requires chosen { Chosen sh choice.now (W.memory sheet.now) (W.memory scratch.now) u j }
+    ensures { let sheet₀ = W.memory sheet.now in
+        let scratch₀ = W.memory scratch.now in
         WaysOf sh choice.now sheet₀ scratch₀ u (Beyond (residual_of sh sheet₀ scratch₀) u j (ltb u sh.cards)) result.by result.to }
 {
     let g = sh.groups;
@@ -250,76 +202,32 @@ fn way_from(
     let end = rows + g;
     let cards = sh.cards;
     if j < end {
-        return way_along(sh, u, j, choice, wide, sheet, sheet64, scratch, scratch64);
+        return way_along(sh, u, j, choice, sheet, scratch);
     }
-    way_up(
-        sh,
-        u,
-        u < cards,
-        choice,
-        wide,
-        sheet,
-        sheet64,
-        scratch,
-        scratch64,
-    )
+    way_up(sh, u, u < cards, choice, sheet, scratch)
 }
 
 // The way along the first item of node u, from its cell on, along which there is one. Of a card that has none the way up.
-fn way_on(
-    sh: Shape,
-    u: usize,
-    choice: &[u8],
-    wide: bool,
-    sheet: &[u32],
-    sheet64: &[u64],
-    scratch: &mut [u32],
-    scratch64: &mut [u64],
-) -> Way
-    requires { Standing sh choice.now (memory wide sheet.now sheet64.now) (memory wide scratch.old scratch64.old) u }
-    ensures { let sheet₀ = memory wide sheet.now sheet64.now in
-        let scratch₀ = memory wide scratch.old scratch64.old in
-        let scratch' = memory wide scratch.new scratch64.new in
-        Went sh choice.now sheet₀ scratch₀ scratch' u (ltb u sh.cards) result.by result.to }
+fn way_on<W: Width>(sh: Shape, u: usize, choice: &[u8], sheet: &[W], scratch: &mut [W]) -> Way
+    requires { Standing sh choice.now (W.memory sheet.now) (W.memory scratch.old) u }
+    ensures { Went sh choice.now (W.memory sheet.now) (W.memory scratch.old) (W.memory scratch.new) u (ltb u sh.cards) result.by result.to }
 {
-    let at = queue(sh, u, wide, scratch, scratch64);
-    let j = open_item(sh, u, at, choice, wide, sheet, sheet64, scratch, scratch64);
-    set_queue(sh, u, j, wide, scratch, scratch64);
-    way_from(sh, u, j, choice, wide, sheet, sheet64, scratch, scratch64)
+    let at = queue(sh, u, scratch);
+    let j = open_item(sh, u, at, choice, sheet, scratch);
+    set_queue(sh, u, j, scratch);
+    way_from(sh, u, j, choice, sheet, scratch)
 }
 
 // The next way from node u: from a shop up before its items, from a card after them.
-pub fn next_way(
-    sh: Shape,
-    u: usize,
-    choice: &[u8],
-    wide: bool,
-    sheet: &[u32],
-    sheet64: &[u64],
-    scratch: &mut [u32],
-    scratch64: &mut [u64],
-) -> Way
-    requires { Standing sh choice.now (memory wide sheet.now sheet64.now) (memory wide scratch.old scratch64.old) u }
-    ensures { let sheet₀ = memory wide sheet.now sheet64.now in
-        let scratch₀ = memory wide scratch.old scratch64.old in
-        let scratch' = memory wide scratch.new scratch64.new in
-        Went sh choice.now sheet₀ scratch₀ scratch' u (ltb u sh.groups) result.by result.to }
+pub fn next_way<W: Width>(sh: Shape, u: usize, choice: &[u8], sheet: &[W], scratch: &mut [W]) -> Way
+    requires { Standing sh choice.now (W.memory sheet.now) (W.memory scratch.old) u }
+    ensures { Went sh choice.now (W.memory sheet.now) (W.memory scratch.old) (W.memory scratch.new) u (ltb u sh.groups) result.by result.to }
 {
     let g = sh.groups;
     let cards = sh.cards;
-    let up = way_up(
-        sh,
-        u,
-        (cards <= u) & (u < g),
-        choice,
-        wide,
-        sheet,
-        sheet64,
-        scratch,
-        scratch64,
-    );
+    let up = way_up(sh, u, (cards <= u) & (u < g), choice, sheet, scratch);
     if up.to != u {
         return up;
     }
-    way_on(sh, u, choice, wide, sheet, sheet64, scratch, scratch64)
+    way_on(sh, u, choice, sheet, scratch)
 }

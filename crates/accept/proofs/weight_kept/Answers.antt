@@ -3,4 +3,4 @@ use native.Mathlib.Omega.{arith}
 use Rattle.accept.proofs.weight_kept.Goals as goal
 
 pub returns : goal.returns
-returns c = omega (arith, c.long.ensures, c.totals_of-totals.ensures.total)
+returns c = omega (arith, c.totals_of-totals.ensures.total)

@@ -1,8 +1,7 @@
 -- `put_limits` meets its contract. The loop keeps that the limits of the days before k are put, one behind the other.
 use mathlib.Core.List.{List}
-use Prim.Native.Nat.{ℕ, ◌-◌, ◌≤◌}
+use Prim.Native.Nat.{ℕ}
 use Rattle.theory.specs.Matroid.{row}
-use Rattle.claimfile.specs.File.{days}
 use Rattle.claimwriter.specs.Written.{bytes_of, records}
 use Rattle.claimwriter.specs.Put.{Put}
 use Rattle.claimwriter.proofs.put_limits.Given as goal
@@ -11,7 +10,4 @@ abbrev pub limits_of : List ℕ → ℕ → List ℕ
 limits_of limits k = bytes_of (row limits k)
 
 abbrev pub invariant-loop-k : goal.invariant-loop-k
-invariant-loop-k l = (l.k ≤ days) × Put l.initial.out l.out l.at (records l.k (limits_of l.limits))
-
-abbrev pub decreases-loop-k : goal.decreases-loop-k
-decreases-loop-k l = days - l.k
+invariant-loop-k l = Put l.initial.out l.out l.at (records l.k (limits_of l.limits))

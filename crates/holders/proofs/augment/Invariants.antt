@@ -1,14 +1,10 @@
 -- While `more` holds the next round may begin, and once it does not there is no path (`Going`). Each round but the last keeps more rows.
-use mathlib.Core.Path.{◌≡◌}
-use lib.ListN.{length}
-use Rattle.scratch.specs.Memory.{memory}
 use Rattle.walks.proofs.RoundLaws.{to_go}
 use Rattle.holders.proofs.FindLaws.{Going}
 use Rattle.holders.proofs.augment.Given as goal
 
 abbrev pub invariant-loop-more : goal.invariant-loop-more
-invariant-loop-more l = Going l.sh l.initial.choice (memory l.wide l.sheet l.sheet64) (memory l.wide l.initial.scratch l.initial.scratch64) l.choice (memory l.wide l.scratch l.scratch64) l.more
-    × ((length l.scratch ≡ length l.initial.scratch) × (length l.scratch64 ≡ length l.initial.scratch64))
+invariant-loop-more g l = Going l.sh l.initial.choice (g.W.Width.memory l.sheet) (g.W.Width.memory l.initial.scratch) l.choice (g.W.Width.memory l.scratch) l.more
 
 abbrev pub decreases-loop-more : goal.decreases-loop-more
-decreases-loop-more l = to_go l.sh l.choice l.more
+decreases-loop-more g l = to_go l.sh l.choice l.more

@@ -4,7 +4,7 @@ use Rattle.holders.proofs.FindLaws.{sink-asked, sink-aside, sink-queued, sink-la
 use Rattle.holders.proofs.label_sink.Goals as goal
 
 pub search_back-n-requires : goal.search_back-n-requires
-search_back-n-requires c =
+search_back-n-requires g c =
     let A = c.requires in
     record {
       asked = sink-asked A;
@@ -12,13 +12,13 @@ search_back-n-requires c =
     }
 
 pub relabel-requires : goal.relabel-requires
-relabel-requires c =
+relabel-requires g c =
     record {
       queued = sink-queued c.requires c.search_back-n.ensures;
       x_lt_cell_bound = omega arith;
     }
 
 pub returns : goal.returns
-returns c =
+returns g c =
     sink-labelled c.requires c.search_back-n.ensures
     c.relabel.ensures

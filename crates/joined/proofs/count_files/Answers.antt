@@ -1,5 +1,5 @@
 use mathlib.Core.Path.{◌≡◌}
-use Prim.Native.Nat.{◌+◌, ◌-◌, ◌≤◌}
+use Prim.Native.Nat.{◌+◌, ◌≤◌}
 use native.Mathlib.Omega.{arith}
 use borrow.Author.Rules.{rules}
 use lib.ListN.{length}
@@ -14,7 +14,6 @@ use Rattle.joined.proofs.count_files.Goals.{After-length_at}
 pub loop-k-init : goal.loop-k-init
 loop-k-init c =
     let a = c.args in (
-      omega arith,
       sum-none (length_of a.lengths.now),
       tally-none a.day a.files.now a.lengths.now a.choice.now,
     )
@@ -25,7 +24,7 @@ length_at-requires c = (omega arith, (fit-lengths (length c.args.files.now) c.ar
 -- file k lies within the buffer
 within : (c : After-length_at) → c.loop-k.at + c.length_at.result ≤ length c.args.files.now
 within c =
-    member-within c.args.files.now c.args.lengths.now c.loop-k.k _ _ c.loop-k.invariant.1
+    member-within c.args.files.now c.args.lengths.now c.loop-k.k _ _ c.loop-k.invariant.0
     c.length_at.ensures.0 c.requires.read.fit (omega arith)
 
 pub overflow_add-end : goal.overflow_add-end
@@ -42,23 +41,16 @@ slice_bounds-count_member-end c =
 pub count_member-tally-requires : goal.count_member-tally-requires
 count_member-tally-requires c =
     let a = c.args in
-    tally-ready a.day a.files.now a.lengths.now a.choice.now c.requires c.loop-k.k (omega arith) c.loop-k.tally c.loop-k.invariant.2 _
-    (member-slice a.files.now a.lengths.now c.loop-k.k c.loop-k.at _ c.loop-k.invariant.1 c.length_at.ensures.0)
-
-pub overflow_add-k : goal.overflow_add-k
-overflow_add-k c = omega arith
-
-pub loop-k-smaller : goal.loop-k-smaller
-loop-k-smaller c = omega arith
+    tally-ready a.day a.files.now a.lengths.now a.choice.now c.requires c.loop-k.k (omega arith) c.loop-k.tally c.loop-k.invariant.1 _
+    (member-slice a.files.now a.lengths.now c.loop-k.k c.loop-k.at _ c.loop-k.invariant.0 c.length_at.ensures.0)
 
 pub loop-k-preserved : goal.loop-k-preserved
 loop-k-preserved c =
     let a = c.args in (
-      omega arith,
-      omega (arith, c.loop-k.invariant.1, c.length_at.ensures.0, sum-next c.loop-k.k (length_of a.lengths.now)),
+      omega (arith, c.loop-k.invariant.0, c.length_at.ensures.0, sum-next c.loop-k.k (length_of a.lengths.now)),
       tally-next a.day a.files.now a.lengths.now a.choice.now c.requires c.loop-k.k (omega arith) c.loop-k.tally
-          c.loop-k.invariant.2 _
-          (member-slice a.files.now a.lengths.now c.loop-k.k c.loop-k.at _ c.loop-k.invariant.1 c.length_at.ensures.0) _
+          c.loop-k.invariant.1 _
+          (member-slice a.files.now a.lengths.now c.loop-k.k c.loop-k.at _ c.loop-k.invariant.0 c.length_at.ensures.0) _
           c.count_member-tally.ensures,
     )
 
@@ -66,4 +58,4 @@ pub returns : goal.returns
 returns c =
     let a = c.args in
     let all : c.loop-k.k ≡ length a.lengths.now = omega arith in
-    tally-all a.day a.files.now a.lengths.now a.choice.now c.loop-k.tally (rw all at c.loop-k.invariant.2)
+    tally-all a.day a.files.now a.lengths.now a.choice.now c.loop-k.tally (rw all at c.loop-k.invariant.1)

@@ -1,47 +1,56 @@
 -- What is judged of the files decides; files that are ready are settled as the joined file is.
-use mathlib.Core.Path.{refl, sym, ◌∙◌}
+use mathlib.Core.Path.{◌≡◌, sym, ap, ◌∙◌}
 use Prim.Native.Nat.{ℕ, ◌<◌}
 use native.Mathlib.Omega.{arith}
 use lib.ListN.{get_or}
-use Rattle.joined.proofs.AnswerLaws.{sizes-few, ready-joins, joins-oven, joins-settled, joins-member, joins-refused}
+use Rattle.std.specs.Prelude.{Result}
+use Rattle.closing.specs.declared.Totals.{Totals}
+use Rattle.members.specs.declared.Fault.{Fault}
+use Rattle.reader.proofs.PassedLaws.{passed-on}
+use Rattle.joined.specs.Call.{joint_of, JoinsAs}
+use Rattle.joined.proofs.AnswerLaws.{sizes-few, ready-joins, joins-oven, joins-settled, joins-fault}
 use Rattle.joined.proofs.settle_joined.Goals as goal
-use Rattle.joined.proofs.settle_joined.Goals.{After-judge_files-judged}
+use Rattle.joined.proofs.settle_joined.Goals.{After-judge_files, After-settle_ready}
 
 -- the bytes of the files are bytes
-bytes : (c : After-judge_files-judged) (i : ℕ) → get_or c.args.files.now i 0 < 256
+bytes : (c : After-judge_files) (i : ℕ) → get_or c.args.files.now i 0 < 256
 bytes c i = omega (arith, c.shared_slice_known-1.given i)
 
 pub layout_of-requires : goal.layout_of-requires
 layout_of-requires c =
     let a = c.args in
-    sizes-few a.day a.files.now a.lengths.now c.wide.result (bytes (goal.at.layout_of-requires c).After-judge_files-judged) c.wide.ensures.1 _
-    (sym c.judge_files-judged.ensures ∙ c.in-Ready.is)
+    sizes-few a.day a.files.now a.lengths.now c.from.result (bytes (goal.at.layout_of-requires c).After-judge_files) (omega (arith, c.from.ensures, c.ranges.oven)) _
+    (sym c.judge_files.ensures ∙ c.in_ok-sizes.was)
 
 pub settle_ready-requires : goal.settle_ready-requires
 settle_ready-requires c =
     let a = c.args in
-    ready-joins a.day a.files.now a.lengths.now _ (bytes (goal.at.settle_ready-requires c).After-judge_files-judged) c.wide.ensures.1 _
-    (sym c.judge_files-judged.ensures ∙ c.in-Ready.is) _ c.layout_of.ensures
+    ready-joins a.day a.files.now a.lengths.now _ (bytes (goal.at.settle_ready-requires c).After-judge_files) (omega (arith, c.from.ensures, c.ranges.oven)) _
+    (sym c.judge_files.ensures ∙ c.in_ok-sizes.was) _ c.layout_of.ensures
 
--- the files are refused together
-pub returns-in-Refused : goal.returns-in-Refused
-returns-in-Refused c =
+-- the files are turned away
+pub returns-in_err-sizes : goal.returns-in_err-sizes
+returns-in_err-sizes c =
     let a = c.args in
-    joins-refused a.day a.files.now a.lengths.now a.oven (bytes (goal.at.returns-in-Refused c).After-judge_files-judged) (omega arith) a.choice.now a.sheet.now
-    a.scratch.now _ (sym c.judge_files-judged.ensures ∙ c.in-Refused.is) _ refl
+    joins-fault a.day a.files.now a.lengths.now a.oven (bytes (goal.at.returns-in_err-sizes c).After-judge_files) (omega arith) a.choice.now
+    a.sheet.now a.scratch.now _ (sym c.judge_files.ensures ∙ c.in_err-sizes.was) _ (passed-on _ _ c.from_residual.ensures.1)
 
--- one of them is at fault
-pub returns-in-Member : goal.returns-in-Member
-returns-in-Member c =
+-- what settling them together answers and leaves is what the call does
+settled :
+    (c : After-settle_ready) (r : Result Totals Fault) → r ≡ joint_of c.settle_ready.result →
     let a = c.args in
-    joins-member a.day a.files.now a.lengths.now a.oven (bytes (goal.at.returns-in-Member c).After-judge_files-judged) (omega arith) a.choice.now a.sheet.now
-    a.scratch.now _ _ (sym c.judge_files-judged.ensures ∙ c.in-Member.is) _ refl
+    let b = c.settle_ready.new in
+    JoinsAs a.day a.files.now a.lengths.now a.oven a.choice.now a.sheet.now a.scratch.now b.choice b.sheet b.scratch r
+settled c r is =
+    let a = c.args in
+    joins-oven a.day a.files.now a.lengths.now c.from.result a.oven c.from.ensures _ _ _ _ _ _ _
+    (joins-settled a.day a.files.now a.lengths.now c.from.result (λ i. omega (arith, c.shared_slice_known-1.given i)) (omega (arith, c.from.ensures, c.ranges.oven)) _
+    (sym c.judge_files.ensures ∙ c.in_ok-sizes.was) _ c.layout_of.ensures _ _ _ _ _ _ _ _ is c.settle_ready.ensures)
 
--- they are settled together
-pub returns-in-Ready : goal.returns-in-Ready
-returns-in-Ready c =
-    let a = c.args in
-    joins-oven a.day a.files.now a.lengths.now c.wide.result a.oven c.wide.ensures.0 _ _ _ _ _ _ _
-    (joins-settled a.day a.files.now a.lengths.now c.wide.result (bytes (goal.at.returns-in-Ready c).After-judge_files-judged) c.wide.ensures.1 _
-    (sym c.judge_files-judged.ensures ∙ c.in-Ready.is) _ c.layout_of.ensures _ _ _ _ _ _ _ _
-    c.joint_of.ensures c.settle_ready.ensures)
+pub returns-in_err-totals : goal.returns-in_err-totals
+returns-in_err-totals c =
+    settled (goal.at.returns-in_err-totals c).After-settle_ready _
+    (passed-on _ _ c.from_residual-in_err-totals.ensures.1 ∙ ap joint_of (sym c.in_err-totals.was))
+
+pub returns : goal.returns
+returns c = settled (goal.at.returns c).After-settle_ready _ (ap joint_of (sym c.in_ok-totals.was))

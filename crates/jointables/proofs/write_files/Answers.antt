@@ -1,5 +1,5 @@
 use mathlib.Core.Path.{◌≡◌, refl, ◌∙◌}
-use Prim.Native.Nat.{◌+◌, ◌-◌, ◌≤◌}
+use Prim.Native.Nat.{◌+◌, ◌≤◌}
 use native.Mathlib.Omega.{arith}
 use borrow.Author.Rules.{rules}
 use lib.ListN.{length}
@@ -20,7 +20,6 @@ overflow_add-spot c =
 pub loop-k-init : goal.loop-k-init
 loop-k-init c =
     let a = c.args in (
-      omega arith,
       sum-none (length_of a.lengths.now),
       spot-none a.day a.files.now a.lengths.now a.sh a.scratch.now c.requires,
       refl,
@@ -33,7 +32,7 @@ length_at-requires c = (omega arith, (fit-lengths (length c.args.files.now) c.ar
 -- file k lies within the buffer
 within : (c : After-length_at) → c.loop-k.at + c.length_at.result ≤ length c.args.files.now
 within c =
-    member-within c.args.files.now c.args.lengths.now c.loop-k.k _ _ c.loop-k.invariant.1
+    member-within c.args.files.now c.args.lengths.now c.loop-k.k _ _ c.loop-k.invariant.0
     c.length_at.ensures.0 c.requires.read.fit (omega arith)
 
 pub overflow_add-end : goal.overflow_add-end
@@ -51,31 +50,24 @@ pub write_member-spot-requires : goal.write_member-spot-requires
 write_member-spot-requires c =
     let a = c.args in
     next-stands a.day a.files.now a.lengths.now a.sh a.scratch.now c.requires c.loop-k.k (omega arith) _
-    (room-keeps c.loop-k.invariant.3 c.requires.room) _ c.loop-k.spot
-    (member-slice a.files.now a.lengths.now c.loop-k.k c.loop-k.at _ c.loop-k.invariant.1 c.length_at.ensures.0) c.loop-k.invariant.2
-
-pub overflow_add-k : goal.overflow_add-k
-overflow_add-k c = omega arith
-
-pub loop-k-smaller : goal.loop-k-smaller
-loop-k-smaller c = omega arith
+    (room-keeps c.loop-k.invariant.2 c.requires.room) _ c.loop-k.spot
+    (member-slice a.files.now a.lengths.now c.loop-k.k c.loop-k.at _ c.loop-k.invariant.0 c.length_at.ensures.0) c.loop-k.invariant.1
 
 pub loop-k-preserved : goal.loop-k-preserved
 loop-k-preserved c =
     let a = c.args in
-    let room = room-keeps c.loop-k.invariant.3 c.requires.room in
-    let member = member-slice a.files.now a.lengths.now c.loop-k.k c.loop-k.at _ c.loop-k.invariant.1 c.length_at.ensures.0 in (
-      omega arith,
-      omega (arith, c.loop-k.invariant.1, c.length_at.ensures.0, sum-next c.loop-k.k (length_of a.lengths.now)),
+    let room = room-keeps c.loop-k.invariant.2 c.requires.room in
+    let member = member-slice a.files.now a.lengths.now c.loop-k.k c.loop-k.at _ c.loop-k.invariant.0 c.length_at.ensures.0 in (
+      omega (arith, c.loop-k.invariant.0, c.length_at.ensures.0, sum-next c.loop-k.k (length_of a.lengths.now)),
       next-spot a.day a.files.now a.lengths.now a.sh a.scratch.now c.requires c.loop-k.k (omega arith) _ room _ c.loop-k.spot
-          member c.loop-k.invariant.2 _ _ c.write_member-spot.ensures,
-      c.write_member-spot.ensures.long ∙ c.loop-k.invariant.3,
+          member c.loop-k.invariant.1 _ _ c.write_member-spot.ensures,
+      c.write_member-spot.ensures.long ∙ c.loop-k.invariant.2,
       λ oven begun.
           filled_next a.day a.files.now a.lengths.now a.sh a.scratch.now c.requires c.loop-k.k (omega arith) _ room _
-          c.loop-k.spot member c.loop-k.invariant.2 _ _ c.write_member-spot.ensures oven (c.loop-k.invariant.4 oven begun),
+          c.loop-k.spot member c.loop-k.invariant.1 _ _ c.write_member-spot.ensures oven (c.loop-k.invariant.3 oven begun),
     )
 
 pub returns : goal.returns
 returns c =
     let all : c.loop-k.k ≡ length c.args.lengths.now = omega arith in
-    record { long = c.loop-k.invariant.3; filled = rw all at c.loop-k.invariant.4 }
+    record { long = c.loop-k.invariant.2; filled = rw all at c.loop-k.invariant.3 }

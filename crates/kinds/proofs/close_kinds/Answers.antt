@@ -18,5 +18,5 @@ returns c =
     record {
       settlement = c.decide_kinds.ensures;
       counted = c.count_kinds.ensures;
-      clear = c.clear_wide.ensures.zero;
+      clear = c.clear.ensures.zero;
     }

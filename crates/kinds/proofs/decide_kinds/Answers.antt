@@ -17,7 +17,7 @@ lent :
 lent S = lent-lows second_terms S.args.sheet.now S.args.scratch.now S.requires
 
 pub returns-then-layout-eq0 : goal.returns-then-layout-eq0
-returns-then-layout-eq0 c = empty-settlement second_terms _ _ _ _ _ (omega (arith, c.if-layout-eq0.true)) c.clear_wide.ensures.zero
+returns-then-layout-eq0 c = empty-settlement second_terms _ _ _ _ _ (omega (arith, c.if-layout-eq0.true)) c.clear.ensures.zero
 
 pub shape_of_kinds-sh-requires : goal.shape_of_kinds-sh-requires
 shape_of_kinds-sh-requires c =

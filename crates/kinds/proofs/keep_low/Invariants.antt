@@ -1,11 +1,6 @@
 -- The invariant: the cells before i hold their low halves, and the others what they held.
-use Prim.Native.Nat.{◌-◌}
-use lib.ListN.{length}
 use Rattle.kinds.proofs.LowLaws.{Keeping}
 use Rattle.kinds.proofs.keep_low.Given as goal
 
 abbrev pub invariant-loop-i : goal.invariant-loop-i
 invariant-loop-i l = Keeping l.initial.cells l.cells l.i
-
-abbrev pub decreases-loop-i : goal.decreases-loop-i
-decreases-loop-i l = length l.initial.cells - l.i

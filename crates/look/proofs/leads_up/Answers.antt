@@ -3,6 +3,6 @@ use Rattle.look.proofs.LookLaws.{up-leads}
 use Rattle.look.proofs.leads_up.Goals as goal
 
 pub returns : goal.returns
-returns c =
-    up-leads _ _ _ _ c.args.back c.price.ensures c.price_above.ensures c.requires.u_lt_groups.0 c.requires.u_lt_groups.1
-    c.choose-easy.ensures c.spare.ensures
+returns g c =
+    up-leads _ _ _ _ c.args.back c.price.ensures.0 c.price_above.ensures c.requires.u_lt_groups.0 c.requires.u_lt_groups.1
+    c.pick-easy.ensures c.spare.ensures

@@ -4,18 +4,14 @@ use Rattle.look.proofs.LookLaws.{row-leads}
 use Rattle.look.proofs.StepLaws.{looking-most, looked-tried, ends-below}
 use Rattle.look.proofs.look_row.Goals as goal
 
-pub look-requires : goal.look-requires
-look-requires c =
-    record {
-      room = c.requires.looking.ready.buffers.room;
-      v_bound = (
-        ends-below c.requires.looking.ready c.requires.ends,
-        (looking-most c.requires.looking, omega (arith, c.requires.ends.row, c.requires.looking.ready.buffers.room.few)),
-      );
-    }
+pub look-requires-clause-v_bound : goal.look-requires-clause-v_bound
+look-requires-clause-v_bound g c = (
+  ends-below c.requires.looking.ready c.requires.ends,
+  (looking-most c.requires.looking, omega (arith, c.requires.ends.row, c.requires.looking.ready.buffers.room.few)),
+)
 
 pub returns : goal.returns
-returns c =
+returns g c =
     let ends = c.requires.ends in
     looked-tried (ends-below c.requires.looking.ready ends) (omega (arith, ends.row, c.requires.looking.ready.buffers.room.few))
     (row-leads _ _ _ _ c.args.back c.requires.looking.ready.formed ends c.requires.free_le_c.0 c.requires.free_le_c.1

@@ -4,4 +4,4 @@ use Rattle.look.proofs.StepLaws.{reached-of}
 use Rattle.look.proofs.reach.Goals as goal
 
 pub returns : goal.returns
-returns c = reached-of c.set_label.ensures c.set_queue.ensures
+returns g c = reached-of c.set_label.ensures c.set_queue.ensures

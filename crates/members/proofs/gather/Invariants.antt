@@ -1,12 +1,8 @@
 -- `gather` meets its contract: the loop keeps that the files before file k are accepted, with their sizes, and where file k starts.
 use mathlib.Core.Path.{◌≡◌}
-use Prim.Native.Nat.{◌-◌, ◌≤◌}
 use Rattle.theory.specs.Sum.{sum}
 use Rattle.members.specs.Members.{length_of, reading_of, AllOf, gathered}
 use Rattle.members.proofs.gather.Given as goal
 
 abbrev pub invariant-loop-k : goal.invariant-loop-k
-invariant-loop-k l = (l.k ≤ l.n) × (gathered (reading_of l.day l.files l.lengths) l.k ≡ AllOf l.sizes) × (l.at ≡ sum l.k (length_of l.lengths))
-
-abbrev pub decreases-loop-k : goal.decreases-loop-k
-decreases-loop-k l = l.n - l.k
+invariant-loop-k l = (gathered (reading_of l.day l.files l.lengths) l.k ≡ AllOf l.sizes) × (l.at ≡ sum l.k (length_of l.lengths))

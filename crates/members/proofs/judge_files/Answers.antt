@@ -8,9 +8,6 @@ returns-then-not-lengths_fit c =
     let a = c.args in
     judged-files a.day a.files.now a.lengths.now (sym c.lengths_fit.ensures ∙ c.if-not-lengths_fit.true)
 
-pub gather-requires : goal.gather-requires
-gather-requires c = sym c.lengths_fit.ensures ∙ c.if-not-lengths_fit.false
-
 pub returns : goal.returns
 returns c =
     let a = c.args in

@@ -4,7 +4,7 @@ use Rattle.order.proofs.OrderLaws.{stays-any}
 use Rattle.order.proofs.stays.Goals as goal
 
 pub returns : goal.returns
-returns c =
+returns g c =
     let P = c.requires in
     stays-any P.at P.classes c.kept-keeps.ensures c.row_price.ensures
-    c.weight.ensures c.parted.ensures
+    c.weight.ensures.0 c.parted.ensures

@@ -19,12 +19,12 @@ parent_for-parent-requires c = group-most c.requires.ready.0 c.requires.ready.1 
 pub put_group-requires : goal.put_group-requires
 put_group-requires c = (
   c.requires.ready.0.given.room,
-  number-placed c.requires.ready.0 c.requires.ready.1 c.requires.numbered c.wide-number.ensures.0 (omega arith),
+  number-placed c.requires.ready.0 c.requires.ready.1 c.requires.numbered c.from-number.ensures (omega arith),
   c.parent_for-parent.ensures.1,
   c.limits_for-limits.ensures.size,
 )
 
 pub returns : goal.returns
 returns c =
-    put-used c.requires.ready.0 c.requires.ready.1 c.requires.numbered c.wide-number.ensures.0 (omega arith)
+    put-used c.requires.ready.0 c.requires.ready.1 c.requires.numbered c.from-number.ensures (omega arith)
     c.group_of-group.ensures.0 c.parent_for-parent.ensures.0 c.limits_for-limits.ensures c.put_group.ensures

@@ -5,15 +5,15 @@ use Rattle.renumber.proofs.+unnumbered.Goals as goal
 pub returns-then-cell-lt-MAX_GROUPS : goal.returns-then-cell-lt-MAX_GROUPS
 returns-then-cell-lt-MAX_GROUPS t c =
     let a = c.args in
-    count_none a.cells.now a.g a.n (omega (arith, c.wide-cell.ensures.0))
+    count_none a.cells.now a.g a.n (omega (arith, c.from-cell.ensures))
 
 pub returns-then-g-up : goal.returns-then-g-up
 returns-then-g-up t c =
     let a = c.args in
-    count-top a.cells.now a.g a.n (omega (arith, c.wide-cell.ensures.0))
+    count-top a.cells.now a.g a.n (omega (arith, c.from-cell.ensures))
 
 pub returns : goal.returns
 returns t c =
     let a = c.args in
-    count-up a.cells.now a.g a.n _ c.unnumbered.result (omega (arith, c.wide-cell.ensures.0)) (omega arith)
+    count-up a.cells.now a.g a.n _ c.unnumbered.result (omega (arith, c.from-cell.ensures)) (omega arith)
     c.unnumbered.ensures

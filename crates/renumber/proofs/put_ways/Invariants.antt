@@ -1,7 +1,6 @@
 -- `put_ways` meets its contract: the loop keeps that the cells before g are those of groups without a number (`WaysTo`), in 256
 -- cells; the side has no more groups.
 use mathlib.Core.Path.{◌≡◌}
-use Prim.Native.Nat.{◌-◌, ◌≤◌}
 use lib.ListN.{length}
 use Rattle.theory.specs.Bounds.{max_groups}
 use Rattle.renumber.specs.Canonical.{side_of}
@@ -9,7 +8,4 @@ use Rattle.renumber.proofs.NumberLaws.{WaysTo}
 use Rattle.renumber.proofs.put_ways.Given as goal
 
 abbrev pub invariant-loop-g : goal.invariant-loop-g
-invariant-loop-g l = (l.top ≤ max_groups) × (length l.cells ≡ max_groups) × WaysTo (side_of l.file l.layout l.side) l.cells l.g
-
-abbrev pub decreases-loop-g : goal.decreases-loop-g
-decreases-loop-g l = l.top - l.g
+invariant-loop-g l = (length l.cells ≡ max_groups) × WaysTo (side_of l.file l.layout l.side) l.cells l.g

@@ -1,5 +1,4 @@
 -- `put_rows` meets its contract. The loop's invariant: the lines of the first `c` rows are appended. A turn appends one line more.
-use Prim.Native.Nat.{◌-◌, ◌≤◌}
 use Rattle.theory.specs.Matroid.{row}
 use Rattle.text.specs.Buffer.{Appended}
 use Rattle.claimfile.specs.Day.{kind_of}
@@ -7,7 +6,4 @@ use Rattle.report.specs.Text.{row_lines}
 use Rattle.report.proofs.put_rows.Given as goal
 
 abbrev pub invariant-loop-c : goal.invariant-loop-c
-invariant-loop-c l = (l.c ≤ l.layout.rows) × Appended l.initial.out l.out l.at l.next (row_lines l.c (kind_of l.file l.layout) (row l.choice))
-
-abbrev pub decreases-loop-c : goal.decreases-loop-c
-decreases-loop-c l = l.layout.rows - l.c
+invariant-loop-c l = Appended l.initial.out l.out l.at l.next (row_lines l.c (kind_of l.file l.layout) (row l.choice))

@@ -6,4 +6,4 @@ use Rattle.report_test.proofs.text_of.Goals as goal
 
 pub write_closed-requires : goal.write_closed-requires
 write_closed-requires c =
-    (accepted-sound _ _ _ (sym c.read-reading.ensures ∙ c.in-Accepted.is), omega arith)
+    (accepted-sound _ _ _ (sym c.read-reading.ensures ∙ c.in-Ok.is), omega arith)

@@ -1,14 +1,6 @@
 -- The loop's invariant: the nodes below v are fresh, and only labels changed.
-use Rattle.scratch.specs.Memory.{memory}
-use mathlib.Core.Path.{◌≡◌}
-use lib.ListN.{length}
-use Prim.Native.Nat.{◌+◌, ◌-◌, ◌≤◌}
 use Rattle.search.specs.Search.{Refreshed}
 use Rattle.search.proofs.refresh.Given as goal
 
 abbrev pub invariant-loop-v : goal.invariant-loop-v
-invariant-loop-v l = (Refreshed l.sh (memory l.wide l.initial.scratch l.initial.scratch64) (memory l.wide l.scratch l.scratch64) l.v × (l.v ≤ l.sh.groups + 2))
-    × ((length l.scratch ≡ length l.initial.scratch) × (length l.scratch64 ≡ length l.initial.scratch64))
-
-abbrev pub decreases-loop-v : goal.decreases-loop-v
-decreases-loop-v l = l.sh.groups + 2 - l.v
+invariant-loop-v g l = Refreshed l.sh (g.W.Width.memory l.initial.scratch) (g.W.Width.memory l.scratch) l.v

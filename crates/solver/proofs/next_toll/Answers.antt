@@ -3,16 +3,13 @@ use Rattle.prices.proofs.ReadyLaws.{state-linkable}
 use Rattle.solver.proofs.TollLaws.{stepped-state, moved-step}
 use Rattle.solver.proofs.next_toll.Goals as goal
 
-pub refresh-requires : goal.refresh-requires
-refresh-requires c = c.requires.state.room
-
 pub fill_under_toll-requires : goal.fill_under_toll-requires
-fill_under_toll-requires c = rw c.with_toll-next.ensures (stepped-state c.reprice.ensures c.refresh.ensures)
+fill_under_toll-requires g c = rw c.with_toll-next.ensures (stepped-state c.reprice.ensures c.refresh.ensures)
 
 pub link-requires : goal.link-requires
-link-requires c = state-linkable c.fill_under_toll.ensures.filled.state
+link-requires g c = state-linkable c.fill_under_toll.ensures.filled.state
 
 pub returns : goal.returns
-returns c =
+returns g c =
     moved-step c.reprice.ensures c.refresh.ensures c.requires
     (rw c.with_toll-next.ensures at c.fill_under_toll.ensures) (rw c.with_toll-next.ensures at c.link.ensures)

@@ -16,12 +16,6 @@ returns-then-not-group_formed c =
     one-fails (GroupFormed a.sh a.groups.now) _ c.loop-v-test.true
     c.group_formed.ensures (c.if-not-group_formed.true)
 
-pub overflow_add-v : goal.overflow_add-v
-overflow_add-v c = omega arith
-
-pub loop-v-smaller : goal.loop-v-smaller
-loop-v-smaller c = omega arith
-
 pub loop-v-preserved : goal.loop-v-preserved
 loop-v-preserved c =
     let a = c.args in

@@ -5,6 +5,3 @@ use Rattle.solver_probe.proofs.groups_formed.Given as goal
 
 abbrev pub invariant-loop-v : goal.invariant-loop-v
 invariant-loop-v l = GroupsFormed l.sh l.groups l.v
-
-abbrev pub decreases-loop-v : goal.decreases-loop-v
-decreases-loop-v l = l.count - l.v

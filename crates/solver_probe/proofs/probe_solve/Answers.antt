@@ -31,8 +31,8 @@ write_tables-requires c =
       network = (network, omega arith);
     }
 
-pub solve_narrow-requires : goal.solve_narrow-requires
-solve_narrow-requires c =
+pub solve-requires : goal.solve-requires
+solve-requires c =
     let lengths = c.lengths_are.ensures.holds (c.if-not-lengths_are.false) in
     let network = c.is_network.ensures.holds (c.if-not-is_network.false) in
     written-tables _ _ _ _ _ c.write_tables.ensures _ _
@@ -46,5 +46,5 @@ returns c =
     (record {
       answer = omega arith;
       takes = record { sheets = omega arith; high = omega arith; lengths = lengths; network = network };
-      solution = written-solution _ _ _ _ _ c.write_tables.ensures _ _ c.solve_narrow.ensures;
+      solution = written-solution _ _ _ _ _ c.write_tables.ensures _ _ c.solve.ensures;
     })

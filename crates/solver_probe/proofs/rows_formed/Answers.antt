@@ -16,12 +16,6 @@ returns-then-not-row_formed c =
     one-fails (RowFormed a.sh a.rows.now) _ c.loop-c-test.true
     c.row_formed.ensures (c.if-not-row_formed.true)
 
-pub overflow_add-c : goal.overflow_add-c
-overflow_add-c c = omega arith
-
-pub loop-c-smaller : goal.loop-c-smaller
-loop-c-smaller c = omega arith
-
 pub loop-c-preserved : goal.loop-c-preserved
 loop-c-preserved c =
     let a = c.args in

@@ -5,6 +5,3 @@ use Rattle.solver_probe.proofs.rows_formed.Given as goal
 
 abbrev pub invariant-loop-c : goal.invariant-loop-c
 invariant-loop-c l = RowsFormed l.sh l.rows l.c
-
-abbrev pub decreases-loop-c : goal.decreases-loop-c
-decreases-loop-c l = l.n - l.c

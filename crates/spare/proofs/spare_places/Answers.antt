@@ -1,7 +1,8 @@
 -- `spare_places` meets its contract: a file that is entered is ready for the body, and each answer is that of the definition.
-use mathlib.Core.Path.{refl, sym, ◌∙◌}
+use mathlib.Core.Path.{sym, ◌∙◌}
 use native.Mathlib.Omega.{arith}
 use Rattle.claimfile.specs.File.{first_terms}
+use Rattle.reader.proofs.PassedLaws.{passed-on}
 use Rattle.limits.proofs.EntryLaws.{entered-ready}
 use Rattle.spare.proofs.SpareLaws.{spare-value, spare-selected, spare-row, spared-by}
 use Rattle.spare.proofs.spare_places.Goals as goal
@@ -10,7 +11,7 @@ pub returns-then-layout-row : goal.returns-then-layout-row
 returns-then-layout-row c =
     let a = c.args in
     spared-by a.form a.file.now a.selection.now (λ i. omega (arith, c.shared_slice_known-1.given i)) a.row _
-    c.enter-entry.result _ c.enter-entry.ensures c.in-Entered.is
+    c.enter.result _ c.enter.ensures c.in_ok-layout.was
     (spare-value a.file.now a.selection.now a.row _ (omega arith))
 
 pub bounds-selection-row : goal.bounds-selection-row
@@ -18,34 +19,35 @@ bounds-selection-row c =
     let a = c.args in
     omega (
       arith,
-      (entered-ready first_terms a.form a.file.now a.selection.now _ (sym c.enter-entry.ensures ∙ c.in-Entered.is)).long,
+      (entered-ready first_terms a.form a.file.now a.selection.now _ (sym c.enter.ensures ∙ c.in_ok-layout.was)).long,
     )
 
 pub returns-then-selection-row-eq1 : goal.returns-then-selection-row-eq1
 returns-then-selection-row-eq1 c =
     let a = c.args in
     spared-by a.form a.file.now a.selection.now (λ i. omega (arith, c.shared_slice_known-1.given i)) a.row _
-    c.enter-entry.result _ c.enter-entry.ensures c.in-Entered.is
+    c.enter.result _ c.enter.ensures c.in_ok-layout.was
     (spare-selected a.file.now a.selection.now a.row _ (omega arith) c.if-selection-row-eq1.true)
 
 pub spare_on-requires : goal.spare_on-requires
 spare_on-requires c =
     let a = c.args in
     record {
-      ready = entered-ready first_terms a.form a.file.now a.selection.now _ (sym c.enter-entry.ensures ∙ c.in-Entered.is);
+      ready = entered-ready first_terms a.form a.file.now a.selection.now _ (sym c.enter.ensures ∙ c.in_ok-layout.was);
       row_lt_rows = omega arith;
     }
 
-pub returns-in-Turned : goal.returns-in-Turned
-returns-in-Turned c =
+pub returns-in_err-layout : goal.returns-in_err-layout
+returns-in_err-layout c =
     let a = c.args in
     spared-by a.form a.file.now a.selection.now (λ i. omega (arith, c.shared_slice_known-1.given i)) a.row _
-    c.enter-entry.result _ c.enter-entry.ensures c.in-Turned.is refl
+    c.enter.result _ c.enter.ensures c.in_err-layout.was
+    (passed-on _ _ c.from_residual.ensures.1)
 
-pub returns-else-selection-row-eq1 : goal.returns-else-selection-row-eq1
-returns-else-selection-row-eq1 c =
+pub returns : goal.returns
+returns c =
     let a = c.args in
     spared-by a.form a.file.now a.selection.now (λ i. omega (arith, c.shared_slice_known-1.given i)) a.row _
-    c.enter-entry.result _ c.enter-entry.ensures c.in-Entered.is
+    c.enter.result _ c.enter.ensures c.in_ok-layout.was
     (spare-row a.file.now a.selection.now a.row _ (omega arith) c.if-selection-row-eq1.false c.spare_on.result
     c.spare_on.ensures.is)

@@ -7,14 +7,11 @@ returns-then-u-ge-NODES t c =
     let a = c.args in
     counted_none a.more a.tables.now a.counts.now a.u c.if-u-ge-NODES.true
 
-pub count_from-requires : goal.count_from-requires
-count_from-requires t c = (omega arith, tt)
-
 pub returns-then-up-u : goal.returns-then-up-u
 returns-then-up-u t c =
     let a = c.args in
-    counted-up a.more a.tables.now a.counts.now a.u (omega arith) c.step.result c.step.ensures _ c.wide-up.result
-    c.wide-up.ensures.0 (omega arith) c.count_from.ensures
+    counted-up a.more a.tables.now a.counts.now a.u (omega arith) c.step.result c.step.ensures _ c.from-up.result
+    c.from-up.ensures (omega arith) c.count_from.ensures
 
 pub returns-else-up-u : goal.returns-else-up-u
 returns-else-up-u t c =

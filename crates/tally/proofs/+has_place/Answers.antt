@@ -7,8 +7,8 @@ returns-then-u-ge-NODES t c =
     let a = c.args in
     place_none a.tables.now a.counts.now a.u c.if-u-ge-NODES.true
 
-pub returns-then-wide : goal.returns-then-wide
-returns-then-wide t c =
+pub returns-then-tables-u : goal.returns-then-tables-u
+returns-then-tables-u t c =
     let a = c.args in
     place-full a.tables.now a.counts.now a.u (omega arith) (omega arith)
 
@@ -17,12 +17,9 @@ returns-then-u-up t c =
     let a = c.args in
     place-top a.tables.now a.counts.now a.u (omega arith) (omega arith) (omega arith) (omega arith)
 
-pub has_place-requires : goal.has_place-requires
-has_place-requires t c = (omega arith, tt)
-
 pub returns : goal.returns
 returns t c =
     let a = c.args in
-    let up = c.wide-up in
-    place_up a.tables.now a.counts.now a.u (omega arith) (omega arith) (omega arith) up.result up.ensures.0 (omega arith)
+    let up = c.from-up in
+    place_up a.tables.now a.counts.now a.u (omega arith) (omega arith) (omega arith) up.result up.ensures (omega arith)
     c.has_place.result c.has_place.ensures

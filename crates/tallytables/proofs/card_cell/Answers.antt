@@ -1,15 +1,7 @@
 -- `card_cell` meets its contract. The claim says where the row hangs.
 use native.Mathlib.Omega.{arith}
-use Rattle.tallytables.proofs.FillLaws.{card-none, card-is}
+use Rattle.tallytables.proofs.FillLaws.{card-is}
 use Rattle.tallytables.proofs.card_cell.Goals as goal
-
-pub returns-then-layout-c : goal.returns-then-layout-c
-returns-then-layout-c c =
-    let a = c.args in
-    (card-none a.file.now a.layout a.c (omega arith), omega arith)
-
-pub to_cell-requires : goal.to_cell-requires
-to_cell-requires c = omega arith
 
 pub returns : goal.returns
 returns c =

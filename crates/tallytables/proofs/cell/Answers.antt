@@ -12,9 +12,6 @@ returns-then-i-lt-LIMITS c =
     let a = c.args in
     (c.parent_cell.ensures.0 ∙ sym (cell-parent (instance_of a.file.now a.layout) a.i (omega arith)), c.parent_cell.ensures.1)
 
-pub limit_cell-requires : goal.limit_cell-requires
-limit_cell-requires c = (record { sound = c.requires.0.sound; table = λ j h. c.requires.0.table j (omega arith) }, omega arith)
-
 pub returns-then-i-lt-CARD_NODES : goal.returns-then-i-lt-CARD_NODES
 returns-then-i-lt-CARD_NODES c =
     let a = c.args in

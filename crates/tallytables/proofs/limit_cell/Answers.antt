@@ -2,19 +2,14 @@
 -- whose cell stands before.
 use mathlib.Core.Path.{◌∙◌}
 use native.Mathlib.Omega.{arith}
-use Rattle.tallytables.proofs.FillLaws.{limit-none, limit-alone, limit-lowered}
+use Rattle.tallytables.proofs.FillLaws.{limit-alone, limit-lowered}
 use Rattle.tallytables.proofs.limit_cell.Goals as goal
-
-pub returns-then-layout-v : goal.returns-then-layout-v
-returns-then-layout-v c =
-    let a = c.args in
-    (limit-none a.file.now a.layout a.v (omega arith), omega arith)
 
 pub returns-then-v-up : goal.returns-then-v-up
 returns-then-v-up c =
     let a = c.args in (
-      limit-alone a.file.now a.layout a.v (omega arith) c.node_at-limit.result.limit c.wide-up.result a.tables.now
-          (omega arith) c.requires.0 c.node_at-limit.ensures.1 c.wide-up.ensures.0 (omega arith),
+      limit-alone a.file.now a.layout a.v (omega arith) c.node_at-limit.result.limit c.from-up.result a.tables.now
+          (omega arith) c.requires.0 c.node_at-limit.ensures.1 c.from-up.ensures (omega arith),
       omega arith,
     )
 
@@ -22,8 +17,8 @@ pub returns : goal.returns
 returns c =
     let a = c.args in
     let lowered =
-    limit-lowered a.file.now a.layout a.v (omega arith) c.node_at-limit.result.limit c.wide-up.result a.tables.now
-    (omega arith) c.requires.0 c.node_at-limit.ensures.1 c.wide-up.ensures.0 (omega arith) c.wide.result
-    c.wide.ensures.0
+    limit-lowered a.file.now a.layout a.v (omega arith) c.node_at-limit.result.limit c.from-up.result a.tables.now
+    (omega arith) c.requires.0 c.node_at-limit.ensures.1 c.from-up.ensures (omega arith) c.from.result
+    c.from.ensures
     in
     (c.lesser.ensures ∙ lowered, omega (arith, c.lesser.ensures))

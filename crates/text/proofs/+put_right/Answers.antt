@@ -28,43 +28,31 @@ more-length width n h = ap length (right-more width n h) ∙ length-append (at_r
 pub put_blanks-next-requires : goal.put_blanks-next-requires
 put_blanks-next-requires t c =
     let a = c.args in
-    omega (arith, c.requires, small-length a.width a.n (omega arith), ap blank c.gap-rest.ensures)
-
-pub overflow_cast-n : goal.overflow_cast-n
-overflow_cast-n t c = omega arith
-
-pub overflow_add-n : goal.overflow_add-n
-overflow_add-n t c = omega arith
+    omega (arith, c.requires, small-length a.width a.n (omega arith), ap blank c.saturating_sub-rest.ensures)
 
 pub put-requires : goal.put-requires
 put-requires t c =
     let a = c.args in
-    omega (arith, c.requires, small-length a.width a.n (omega arith), ap blank c.gap-rest.ensures)
+    omega (arith, c.requires, small-length a.width a.n (omega arith), ap blank c.saturating_sub-rest.ensures)
 
 pub returns-then-n-lt10 : goal.returns-then-n-lt10
 returns-then-n-lt10 t c =
     let a = c.args in
     rw (right-small a.width a.n (omega arith))
-    (then (rw c.gap-rest.ensures at c.put_blanks-next.ensures) c.put.ensures)
+    (then (rw c.saturating_sub-rest.ensures at c.put_blanks-next.ensures) c.put.ensures)
 
 pub put_right-next-requires : goal.put_right-next-requires
 put_right-next-requires t c =
     let a = c.args in
-    (omega arith, omega (arith, c.requires, more-length a.width a.n (omega arith), ap (field a.n) c.gap-rest.ensures))
-
-pub overflow_cast-n-2 : goal.overflow_cast-n-2
-overflow_cast-n-2 t c = omega arith
-
-pub overflow_add-n-2 : goal.overflow_add-n-2
-overflow_add-n-2 t c = omega arith
+    (omega arith, omega (arith, c.requires, more-length a.width a.n (omega arith), ap (field a.n) c.saturating_sub-rest.ensures))
 
 pub put-requires-2 : goal.put-requires-2
 put-requires-2 t c =
     let a = c.args in
-    omega (arith, c.requires, more-length a.width a.n (omega arith), ap (field a.n) c.gap-rest.ensures)
+    omega (arith, c.requires, more-length a.width a.n (omega arith), ap (field a.n) c.saturating_sub-rest.ensures)
 
 pub returns : goal.returns
 returns t c =
     let a = c.args in
     rw (right-more a.width a.n (omega arith))
-    (then (rw c.gap-rest.ensures at c.put_right-next.ensures) c.put-2.ensures)
+    (then (rw c.saturating_sub-rest.ensures at c.put_right-next.ensures) c.put-2.ensures)

@@ -1,4 +1,3 @@
-use Rattle.std.proofs.Common.{◌-◌}
 use Rattle.text.proofs.+put_right.Given as goal
 
 -- proposed from what the function passes where it calls itself

@@ -15,12 +15,12 @@ put_word-next-requires c =
 pub put_right-requires : goal.put_right-requires
 put_right-requires c =
     let a = c.args in
-    let left : c.gap.result ≡ a.width - length a.word.now = omega arith in
+    let left : c.saturating_sub.result ≡ a.width - length a.word.now = omega arith in
     rw left
     (omega (arith, c.requires, length-append a.word.now (at_right (a.width - length a.word.now) (decimal a.n))))
 
 pub returns : goal.returns
 returns c =
     let a = c.args in
-    let left : c.gap.result ≡ a.width - length a.word.now = omega arith in
+    let left : c.saturating_sub.result ≡ a.width - length a.word.now = omega arith in
     then c.put_word-next.ensures (rw left at c.put_right.ensures)

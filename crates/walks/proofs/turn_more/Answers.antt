@@ -3,31 +3,17 @@
 use Rattle.walks.proofs.RoundLaws.{rewound-begun, rewound-ahead, round-path, round-none}
 use Rattle.walks.proofs.turn_more.Goals as goal
 
-pub rewind-requires : goal.rewind-requires
-rewind-requires c = c.requires.state.room
-
 pub turn_next-requires : goal.turn_next-requires
-turn_next-requires c =
+turn_next-requires g c =
     record {
       begun = rewound-begun c.requires c.rewind.ensures;
       ahead = rewound-ahead c.requires c.rewind.ensures;
     }
 
-pub turn_all-requires : goal.turn_all-requires
-turn_all-requires c =
-    let X = c.turn_next.ensures.path c.if-turn_next.true in
-    record {
-      begun = X.begun;
-      ahead = X.ahead;
-    }
-
-pub refresh-requires : goal.refresh-requires
-refresh-requires c = c.turn_all.ensures.filled.state.room
-
 pub returns-then-turn_next : goal.returns-then-turn_next
-returns-then-turn_next c =
+returns-then-turn_next g c =
     round-path c.requires c.rewind.ensures c.turn_next.ensures c.if-turn_next.true
     c.turn_all.ensures c.refresh.ensures
 
 pub returns : goal.returns
-returns c = round-none c.requires c.rewind.ensures c.turn_next.ensures c.if-turn_next.false
+returns g c = round-none c.requires c.rewind.ensures c.turn_next.ensures c.if-turn_next.false

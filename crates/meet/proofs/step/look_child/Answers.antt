@@ -5,30 +5,26 @@ use Rattle.look.proofs.LookLaws.{down-leads}
 use Rattle.meet.proofs.StepLaws.{fall-small, looked-by, looked-none}
 use Rattle.meet.proofs.step.look_child.Goals as goal
 
-pub take-requires : goal.take-requires
-take-requires c =
-    record {
-      room = c.requires.looking.ready.buffers.room;
-      v_bound = (
-        omega (arith, c.requires.child_item.group, c.requires.child_item.code),
-        (
-          c.requires.looking.most,
-          fall-small c.args.sh c.requires.looking.ready.buffers.room.few c.args.v
-              (omega (arith, c.requires.child_item.group, c.requires.child_item.code)) c.args.back c.pick-e.ensures,
-        ),
-      );
-    }
+pub take-requires-clause-v_bound : goal.take-requires-clause-v_bound
+take-requires-clause-v_bound g c = (
+  omega (arith, c.requires.child_item.group, c.requires.child_item.code),
+  (
+    c.requires.looking.most,
+    fall-small c.args.sh c.requires.looking.ready.buffers.room.few c.args.v
+        (omega (arith, c.requires.child_item.group, c.requires.child_item.code)) c.args.back c.pick-e.ensures,
+  ),
+)
 
 pub returns-then-easy-spare : goal.returns-then-easy-spare
-returns-then-easy-spare c =
+returns-then-easy-spare g c =
     looked-by c.pick-e.ensures
-    (down-leads _ _ _ _ c.args.back c.requires.child_item c.choose-easy.ensures c.spare.ensures)
+    (down-leads _ _ _ _ c.args.back c.requires.child_item c.pick-easy.ensures c.spare.ensures)
     (omega (arith, c.requires.child_item.group, c.requires.child_item.code))
     (fall-small c.args.sh c.requires.looking.ready.buffers.room.few c.args.v
     (omega (arith, c.requires.child_item.group, c.requires.child_item.code)) c.args.back c.pick-e.ensures)
     c.if-easy-spare.true c.take.ensures
 
 pub returns : goal.returns
-returns c =
-    looked-none (down-leads _ _ _ _ c.args.back c.requires.child_item c.choose-easy.ensures
+returns g c =
+    looked-none (down-leads _ _ _ _ c.args.back c.requires.child_item c.pick-easy.ensures
     c.spare.ensures) c.if-easy-spare.false

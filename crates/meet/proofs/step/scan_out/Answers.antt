@@ -5,10 +5,10 @@ use Rattle.meet.proofs.ScanLaws.{scanned-hit, scanned-on, scanned-all}
 use Rattle.meet.proofs.step.scan_out.Goals as goal
 
 pub returns-then-hit-gt0 : goal.returns-then-hit-gt0
-returns-then-hit-gt0 c = scanned-hit c.requires c.look_above-above.ensures c.if-hit-gt0.true
+returns-then-hit-gt0 g c = scanned-hit c.requires c.look_above-above.ensures c.if-hit-gt0.true
 
 pub look_items-requires : goal.look_items-requires
-look_items-requires c =
+look_items-requires g c =
     record {
       opened = scanned-on c.requires c.look_above-above.ensures c.if-hit-gt0.false;
       side_of = side-told _ c.args.u
@@ -16,4 +16,4 @@ look_items-requires c =
     }
 
 pub returns : goal.returns
-returns c = scanned-all c.requires c.look_above-above.ensures c.if-hit-gt0.false c.look_items.ensures
+returns g c = scanned-all c.requires c.look_above-above.ensures c.if-hit-gt0.false c.look_items.ensures

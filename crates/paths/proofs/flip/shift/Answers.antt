@@ -4,13 +4,10 @@ use native.Mathlib.Omega.{arith}
 use Rattle.paths.proofs.TurnLaws.{shifted-less, shifted-more}
 use Rattle.paths.proofs.flip.shift.Goals as goal
 
-pub overflow_sub-have : goal.overflow_sub-have
-overflow_sub-have c = omega (arith, c.spare-have.ensures, c.requires.places.0 c.if-takes.true)
-
 pub returns-then-takes : goal.returns-then-takes
-returns-then-takes c =
+returns-then-takes g c =
     shifted-less c.set_spare.ensures c.if-takes.true
     (omega (arith, c.spare-have.ensures, c.requires.places.0 c.if-takes.true))
 
 pub returns-else-takes : goal.returns-else-takes
-returns-else-takes c = shifted-more c.set_spare-else-takes.ensures c.if-takes.false (omega (arith, c.spare-have.ensures))
+returns-else-takes g c = shifted-more c.set_spare-else-takes.ensures c.if-takes.false (omega (arith, c.spare-have.ensures))

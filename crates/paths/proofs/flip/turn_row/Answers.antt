@@ -8,11 +8,11 @@ use Rattle.paths.proofs.TurnLaws.{row-turned}
 use Rattle.paths.proofs.flip.turn_row.Goals as goal
 
 pub returns-then-kept-eq1 : goal.returns-then-kept-eq1
-returns-then-kept-eq1 c =
+returns-then-kept-eq1 g c =
     let in-choice : kept_of c.args.choice.now c.args.c ≡ 1 = sym c.kept.ensures ∙ c.if-kept-eq1.true in
     row-turned c.set_kept.ensures (omega arith) (inl (in-choice, c.shop.ensures))
 
 pub returns : goal.returns
-returns c =
+returns g c =
     let left_out : kept_of c.args.choice.now c.args.c ≡ 0 = omega (arith, c.kept.ensures, c.if-kept-eq1.false, c.requires.c_bound) in
     row-turned c.set_kept-2.ensures (omega arith) (inr (left_out, c.card.ensures))

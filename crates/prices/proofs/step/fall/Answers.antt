@@ -5,10 +5,7 @@ use Rattle.prices.proofs.StepLaws.{fall-one}
 use Rattle.prices.proofs.step.fall.Goals as goal
 
 pub returns-then-toll-eq1 : goal.returns-then-toll-eq1
-returns-then-toll-eq1 c = fall-one c.requires c.if-toll-eq1.true
+returns-then-toll-eq1 g c = fall-one c.requires c.if-toll-eq1.true
 
 pub least-requires : goal.least-requires
-least-requires c = state-ready c.requires.state
-
-pub returns : goal.returns
-returns c = c.least.ensures
+least-requires g c = state-ready c.requires.state

@@ -3,4 +3,4 @@ use Rattle.prices.proofs.StepLaws.{groups-rows}
 use Rattle.prices.proofs.step.least.Goals as goal
 
 pub returns : goal.returns
-returns c = groups-rows c.least_groups-most.ensures c.least_rows.ensures
+returns g c = groups-rows c.least_groups-most.ensures c.least_rows.ensures

@@ -4,7 +4,7 @@ use Rattle.prices.proofs.StepLaws.{moving-card, moving-shop}
 use Rattle.prices.proofs.step.moves.Goals as goal
 
 pub returns-then-v-cards : goal.returns-then-v-cards
-returns-then-v-cards c = moving-card c.pred-by.ensures c.if-v-cards.true
+returns-then-v-cards g c = moving-card c.pred-by.ensures c.if-v-cards.true
 
 pub returns : goal.returns
-returns c = moving-shop c.pred-by.ensures c.if-v-cards.false
+returns g c = moving-shop c.pred-by.ensures c.if-v-cards.false

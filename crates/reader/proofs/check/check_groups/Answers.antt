@@ -1,10 +1,11 @@
 use mathlib.Core.Path.{◌≡◌, sym, ◌∙◌}
-use Prim.Native.Nat.{◌+◌, ◌-◌, ◌≤◌}
+use Prim.Native.Nat.{◌+◌, ◌≤◌}
 use native.Mathlib.Omega.{arith}
 use native.Mathlib.Nat.{sub-zero}
 use lib.ListN.{length}
 use Rattle.claimfile.specs.File.{group_width, record_at}
 use Rattle.claimfile.proofs.WidthLaws.{width-inside}
+use Rattle.reader.proofs.PassedLaws.{passed-on}
 use Rattle.reader.proofs.FileLaws.{no_record, record_cut, record_fault, next-record}
 use Rattle.reader.proofs.check.check_groups.Goals as goal
 use Rattle.reader.proofs.check.check_groups.Goals.{In-loop-own}
@@ -13,7 +14,7 @@ pub overflow_sub-file : goal.overflow_sub-file
 overflow_sub-file c = omega arith
 
 pub loop-own-init : goal.loop-own-init
-loop-own-init c = (omega arith, simp sub-zero)
+loop-own-init c = simp sub-zero
 
 -- the record that the loop is at is whole, and one of the section's
 at-record :
@@ -24,52 +25,42 @@ at-record c =
     omega (
       arith,
       c.requires.0,
-      c.lesser-end.ensures,
+      c.min-own-end.ensures,
       c.whole_in-whole.ensures.0,
-      width-inside c.args.form.week c.loop-own.own c.whole_in-whole.result (omega (arith, c.lesser-end.ensures)),
+      width-inside c.args.form.week c.loop-own.own c.whole_in-whole.result (omega (arith, c.min-own-end.ensures)),
     )
 
-pub check_group-checked-requires : goal.check_group-checked-requires
-check_group-checked-requires c = at-record (goal.at.check_group-checked-requires c).In-loop-own
+pub check_group-requires : goal.check_group-requires
+check_group-requires c = at-record (goal.at.check_group-requires c).In-loop-own
 
-pub returns-in_default : goal.returns-in_default
-returns-in_default c =
+pub returns-in_err-check_group : goal.returns-in_err-check_group
+returns-in_err-check_group c =
     let a = c.args in
-    let told = c.in_default.is in
-    told
+    passed-on _ _ c.from_residual.ensures.1
     ∙ sym
-    (record_fault _ _ _ _ a.count c.loop-own.own (omega (arith, c.lesser-end.ensures)) (at-record (goal.at.returns-in_default c).In-loop-own) _
-    (sym c.check_group-checked.ensures ∙ told))
-    ∙ c.loop-own.invariant.1
-
-pub overflow_add-own : goal.overflow_add-own
-overflow_add-own c = omega arith
-
-pub loop-own-smaller : goal.loop-own-smaller
-loop-own-smaller c = omega arith
+    (record_fault _ _ _ _ a.count c.loop-own.own (omega (arith, c.min-own-end.ensures))
+    (at-record (goal.at.returns-in_err-check_group c).In-loop-own) _ (sym c.check_group.ensures ∙ c.in_err-check_group.was))
+    ∙ c.loop-own.invariant
 
 pub loop-own-preserved : goal.loop-own-preserved
 loop-own-preserved c =
     let a = c.args in
-    let told = c.in-Fine.is in (
-      omega arith,
-      sym
-          (next-record _ _ _ _ a.count c.loop-own.own (omega (arith, c.lesser-end.ensures)) (at-record (goal.at.loop-own-preserved c).In-loop-own)
-          (sym c.check_group-checked.ensures ∙ told))
-          ∙ c.loop-own.invariant.1,
-    )
+    sym
+    (next-record _ _ _ _ a.count c.loop-own.own (omega (arith, c.min-own-end.ensures)) (at-record (goal.at.loop-own-preserved c).In-loop-own)
+    (sym c.check_group.ensures ∙ c.in_ok-check_group.was))
+    ∙ c.loop-own.invariant
 
 -- the next record is cut off
 pub returns-then-whole-count : goal.returns-then-whole-count
 returns-then-whole-count c =
     let a = c.args in
-    let last : c.loop-own.own ≡ c.whole_in-whole.result = omega (arith, c.lesser-end.ensures) in
+    let last : c.loop-own.own ≡ c.whole_in-whole.result = omega (arith, c.min-own-end.ensures) in
     sym
     (record_cut _ _ _ _ a.count c.loop-own.own (omega arith)
     (rw last (omega (arith, c.requires.0, c.whole_in-whole.ensures.1))))
-    ∙ c.loop-own.invariant.1
+    ∙ c.loop-own.invariant
 
 pub returns : goal.returns
 returns c =
     let a = c.args in
-    sym (no_record _ _ _ _ a.count c.loop-own.own (omega (arith, c.lesser-end.ensures))) ∙ c.loop-own.invariant.1
+    sym (no_record _ _ _ _ a.count c.loop-own.own (omega (arith, c.min-own-end.ensures))) ∙ c.loop-own.invariant

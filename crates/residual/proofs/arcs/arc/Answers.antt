@@ -6,13 +6,13 @@ use native.Mathlib.Omega.{arith}
 use Rattle.residual.proofs.arcs.arc.Goals as goal
 
 pub returns-then-e-g-2 : goal.returns-then-e-g-2
-returns-then-e-g-2 c =
+returns-then-e-g-2 g c =
     let A = c.args in
     let i : A.sh.groups + (A.e - A.sh.groups) ≡ A.e = omega arith in
     rw i at c.row_arc.ensures
 
 pub returns : goal.returns
-returns c =
+returns g c =
     let A = c.args in
     let i : A.sh.groups + A.sh.rows + (A.e - A.sh.groups - A.sh.rows) ≡ A.e = omega arith in
     rw i at c.up_arc.ensures

@@ -2,23 +2,21 @@
 use Prim.Native.Nat.{ℕ}
 use lib.ListN.{get_or}
 use mathlib.Core.Path.{sym, ap, ◌∙◌}
-use native.Mathlib.Omega.{arith}
-use Rattle.scratch.specs.Memory.{memory}
 use Rattle.scratch.specs.Map.{part, part_of}
+use Rattle.scratch.specs.Tables.{number_of, part_number}
 use Rattle.scratch.proofs.MapLaws.{table_at}
 use Rattle.scratch.proofs.cells.cell.Goals as goal
 
-pub get-requires : goal.get-requires
-get-requires c = omega (arith, c.place-at.ensures, c.requires.room.size)
-
 pub returns : goal.returns
-returns c =
-    let at = c.place-at in
-    let a = c.args in
-    let t = memory a.wide a.scratch.now a.scratch64.now in
-    c.number.ensures
-    ∙ c.part_of.ensures
-    ∙ ap (λ (x : ℕ). part_of c.table_part-part.result x) c.get.ensures
-    ∙ ap (λ (q : ℕ). part_of q (get_or t at.result 0)) c.table_part-part.ensures
-    ∙ ap (λ (x : ℕ). part_of (part a.k) (get_or t x 0)) at.ensures.0
-    ∙ sym (table_at a.sh t a.k a.i c.requires.cell.index)
+returns g c = (
+  let at = c.place-at in
+      let a = c.args in
+      let t = g.W.Width.memory a.scratch.now in
+      c.number.ensures.0
+      ∙ c.part_of.ensures
+      ∙ ap (λ (x : ℕ). part_of (part_number c.table_part-part.result) x) c.get.ensures
+      ∙ ap (λ (q : ℕ). part_of q (get_or t at.result 0)) c.table_part-part.ensures
+      ∙ ap (λ (x : ℕ). part_of (part (number_of a.k)) (get_or t x 0)) at.ensures.0
+      ∙ sym (table_at a.sh t (number_of a.k) a.i c.requires.cell.index),
+  c.number.ensures.1,
+)

@@ -15,10 +15,6 @@ there {sh} {k} {i} few C p q =
     let m = ap (λ x. x * i) q in
     (omega (arith, p, m), omega (arith, p, m, place-low sh k i few.some C.index))
 
-pub overflow_mul-result : goal.overflow_mul-result
-overflow_mul-result c =
-    omega (arith, c.requires.few, there c.requires.few c.requires.cell c.table_start.ensures c.table_stride.ensures)
-
 pub overflow_add-result : goal.overflow_add-result
 overflow_add-result c =
     omega (arith, c.requires.few, there c.requires.few c.requires.cell c.table_start.ensures c.table_stride.ensures)

@@ -2,15 +2,12 @@
 use Rattle.search.proofs.ScanLaws.{scanned-none, open-look, rising-told, rising_none}
 use Rattle.search.proofs.scan.look_above.Goals as goal
 
-pub look_up-requires : goal.look_up-requires
-look_up-requires c =
-    record {
-      looking = open-look c.requires.opened (scanned-none c.requires.opened);
-      u_lt_groups = c.requires.u_lt_groups c.if-rises.true;
-    }
+pub look_up-requires-clause-looking : goal.look_up-requires-clause-looking
+look_up-requires-clause-looking g c =
+    open-look c.requires.opened (scanned-none c.requires.opened)
 
 pub returns-then-rises : goal.returns-then-rises
-returns-then-rises c = rising-told c.requires.opened c.look_up.ensures
+returns-then-rises g c = rising-told c.requires.opened c.look_up.ensures
 
 pub returns : goal.returns
-returns c = rising_none c.if-rises.false c.requires.opened
+returns g c = rising_none c.if-rises.false c.requires.opened

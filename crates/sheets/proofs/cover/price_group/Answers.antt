@@ -8,4 +8,4 @@ returns c =
     let a = c.args in
     priced-more a.file.now a.layout c.requires.0.sound a.sheet.now a.prices.now a.v c.requires.1
     c.requires.2 c.node_at-group.result.parent _ c.node_at-group.ensures.0
-    (omega (arith, c.capped.ensures, c.wide.ensures.0, c.cell.ensures.0))
+    (omega (arith, c.capped.ensures))

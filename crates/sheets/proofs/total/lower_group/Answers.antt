@@ -1,5 +1,4 @@
 -- The limit of the node above is there, so the lesser of it and the written one is the group's limit (`lowers-value`).
-use mathlib.Core.Path.{◌∙◌}
 use native.Mathlib.Omega.{arith}
 use Rattle.sheets.proofs.TableLaws.{lowers-value, lowers-more}
 use Rattle.sheets.proofs.total.lower_group.Goals as goal
@@ -13,6 +12,6 @@ returns c =
     c.lower-limit.result node.0 node.1 c.lower-limit.ensures.0
     in (
       lowers-more a.file.now a.layout c.requires.0 a.limits.now a.v c.requires.1 c.requires.2 _ is,
-      c.long.ensures ∙ is,
-      omega (arith, c.long.ensures, c.lower-limit.ensures.1, node.3),
+      is,
+      omega (arith, c.lower-limit.ensures.1, node.3),
     )

@@ -1,12 +1,9 @@
 -- The loop keeps the sum of the marks so far, in which no mark is over 2 ^ 32.
 use mathlib.Core.Path.{◌≡◌}
-use Prim.Native.Nat.{◌*◌, ◌-◌, ◌≤◌}
+use Prim.Native.Nat.{◌*◌, ◌≤◌}
 use Rattle.theory.specs.Bounds.{cell_bound}
 use Rattle.sheets.specs.Judge.{row_total}
 use Rattle.sheets.proofs.total.total_rows.Given as goal
 
 abbrev pub invariant-loop-c : goal.invariant-loop-c
-invariant-loop-c l = (l.c ≤ l.rows) × (l.total ≡ row_total l.sheet l.groups l.c) × (l.total ≤ cell_bound * l.c)
-
-abbrev pub decreases-loop-c : goal.decreases-loop-c
-decreases-loop-c l = l.rows - l.c
+invariant-loop-c l = (l.total ≡ row_total l.sheet l.groups l.c) × (l.total ≤ cell_bound * l.c)

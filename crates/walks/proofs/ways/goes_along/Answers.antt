@@ -7,54 +7,45 @@ use Rattle.look.proofs.StepLaws.{item-down}
 use Rattle.walks.proofs.WayLaws.{goes-open, goes-shut, goes-child, card-leads, shop-leads}
 use Rattle.walks.proofs.ways.goes_along.Goals as goal
 
-pub goes_down-requires : goal.goes_down-requires
-goes_down-requires c =
-    record {
-      ready = c.requires.ready;
-      child_item = item-down c.requires.at_item c.if-rows-j.true;
-    }
+pub goes_down-requires-clause-child_item : goal.goes_down-requires-clause-child_item
+goes_down-requires-clause-child_item g c =
+    item-down c.requires.at_item c.if-rows-j.true
 
 pub returns-then-rows-j : goal.returns-then-rows-j
-returns-then-rows-j c = goes-child c.requires.ready c.requires.at_item c.if-rows-j.true c.goes_down.ensures
+returns-then-rows-j g c = goes-child c.requires.ready c.requires.at_item c.if-rows-j.true c.goes_down.ensures
 
-pub is_fresh-requires : goal.is_fresh-requires
-is_fresh-requires c =
+pub is_fresh-requires-clause-v_bound : goal.is_fresh-requires-clause-v_bound
+is_fresh-requires-clause-v_bound g c =
     let R = c.requires.ready in
-    record {
-      room = R.buffers.room;
-      v_bound = rw c.shop.ensures (shop-below _ R.formed _ c.if-rows-j.false);
-    }
+    rw c.shop.ensures (shop-below _ R.formed _ c.if-rows-j.false)
 
 pub returns-then-kept-eq0 : goal.returns-then-kept-eq0
-returns-then-kept-eq0 c =
+returns-then-kept-eq0 g c =
     goes-open
     (card-leads c.requires.ready c.requires.at_item c.if-rows-j.false c.card-a.ensures c.kept.ensures
     c.if-a-u.true c.shop.ensures)
     (eq-eqb _ _ c.if-kept-eq0.true) c.is_fresh.ensures
 
 pub returns-then-a-u : goal.returns-then-a-u
-returns-then-a-u c =
+returns-then-a-u g c =
     goes-shut
     (card-leads c.requires.ready c.requires.at_item c.if-rows-j.false c.card-a.ensures c.kept.ensures
     c.if-a-u.true refl)
     (ne_eqb _ _ c.if-kept-eq0.false)
 
-pub is_fresh-requires-then-kept-eq1 : goal.is_fresh-requires-then-kept-eq1
-is_fresh-requires-then-kept-eq1 c =
+pub is_fresh-requires-then-kept-eq1-clause-v_bound : goal.is_fresh-requires-then-kept-eq1-clause-v_bound
+is_fresh-requires-then-kept-eq1-clause-v_bound g c =
     let R = c.requires.ready in
-    record {
-      room = R.buffers.room;
-      v_bound = rw c.card-a.ensures (card-below _ R.formed _ c.if-rows-j.false);
-    }
+    rw c.card-a.ensures (card-below _ R.formed _ c.if-rows-j.false)
 
 pub returns-then-kept-eq1 : goal.returns-then-kept-eq1
-returns-then-kept-eq1 c =
+returns-then-kept-eq1 g c =
     goes-open
     (shop-leads c.requires.ready c.requires.at_item c.if-rows-j.false c.card-a.ensures c.kept-2.ensures c.if-a-u.false)
     (eq-eqb _ _ c.if-kept-eq1.true) c.is_fresh-then-kept-eq1.ensures
 
 pub returns : goal.returns
-returns c =
+returns g c =
     goes-shut
     (shop-leads c.requires.ready c.requires.at_item c.if-rows-j.false c.card-a.ensures c.kept-2.ensures c.if-a-u.false)
     (ne_eqb _ _ c.if-kept-eq1.false)

@@ -5,10 +5,10 @@ use Rattle.walks.proofs.WayLaws.{fall-leads, goes-fresh, goes-stale}
 use Rattle.walks.proofs.ways.goes_down.Goals as goal
 
 pub returns-then-is_fresh : goal.returns-then-is_fresh
-returns-then-is_fresh c =
+returns-then-is_fresh g c =
     goes-fresh (fall-leads c.requires.ready c.requires.child_item c.spare.ensures)
     (eqb-true _ _ (sym c.is_fresh.ensures ∙ c.if-is_fresh.true))
 
 pub returns : goal.returns
-returns c =
+returns g c =
     goes-stale (fall-leads c.requires.ready c.requires.child_item refl) (eqb-false _ _ (sym c.is_fresh.ensures ∙ c.if-is_fresh.false))

@@ -4,29 +4,15 @@ use mathlib.Core.Bool.{true≢false}
 use Rattle.walks.proofs.WayLaws.{rise-leads, onto-of, onto-ways, ways-none}
 use Rattle.walks.proofs.ways.way_up.Goals as goal
 
-pub parent-v-requires : goal.parent-v-requires
-parent-v-requires c =
-    record {
-      room = c.requires.standing.ready.buffers.room;
-      v_lt_groups = c.requires.u_lt_groups c.if-rises.true;
-    }
-
-pub goes_up-requires : goal.goes_up-requires
-goes_up-requires c =
-    record {
-      ready = c.requires.standing.ready;
-      u_lt_groups = (c.requires.u_lt_groups c.if-rises.true, c.parent-v.ensures);
-    }
-
 pub returns-then-goes_up : goal.returns-then-goes_up
-returns-then-goes_up c =
+returns-then-goes_up g c =
     let W = c.requires.standing in
     onto-ways
     (onto-of (rise-leads W.ready refl refl refl (c.requires.u_lt_groups c.if-rises.true) c.parent-v.ensures) refl W.stale
     (c.goes_up.ensures.yes c.if-goes_up.true))
 
 pub returns-else-goes_up : goal.returns-else-goes_up
-returns-else-goes_up c = ways-none refl (λ e r F. c.goes_up.ensures.no c.if-goes_up.false (rw r.1 at F))
+returns-else-goes_up g c = ways-none refl (λ e r F. c.goes_up.ensures.no c.if-goes_up.false (rw r.1 at F))
 
 pub returns-else-rises : goal.returns-else-rises
-returns-else-rises c = ways-none refl (λ e r F. true≢false (sym r.0 ∙ c.if-rises.false))
+returns-else-rises g c = ways-none refl (λ e r F. true≢false (sym r.0 ∙ c.if-rises.false))

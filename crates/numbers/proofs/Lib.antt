@@ -1,2 +1,0 @@
--- Laws of the answers in numbers.
-pub mod NumberLaws
