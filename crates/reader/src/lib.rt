@@ -53,13 +53,19 @@ pub fn read_in(file: &[u8], form: Form, kinds: u8) -> Result<Layout, Refusal>
     let mut sections = [NO_SECTION; 2];
     let mut at = 0;
     for side in 0..2usize {
-        let section = read_groups(file, form, at)?;
+        let groups = read_groups(file, form, at);
+        let Ok(section) = groups else {
+            return Err(groups.unwrap_err());
+        };
         at = section.next;
         sections[side] = section;
     }
     let cards = sections[0];
     let shops = sections[1];
-    let claims = read_claims(file, kinds, at, cards.count, shops.count)?;
+    let rows = read_claims(file, kinds, at, cards.count, shops.count);
+    let Ok(claims) = rows else {
+        return Err(rows.unwrap_err());
+    };
     if claims.next < file.len() {
         return Err(Refusal::Trailing);
     }

@@ -14,6 +14,7 @@ ghost use Rattle.records.specs.Records.{parent_for, limit_for, LimitsTo, Numbere
 
 use claimfile::{DAYS, Layout, TOP, group_of, groups_on, on_day};
 use claimwriter::{group_put, put_group};
+use instance::lesser;
 use theory::MAX_GROUPS;
 
 // The parent of group `g` in the new numbers, by the one in its record: a group at the top stays there.
@@ -37,7 +38,7 @@ fn limit_for(new: Layout, day: usize, side: usize, parent: usize, limit: usize, 
         return limit;
     }
     let above = group_put(new, day, side, parent, out);
-    limit.min(above.limit)
+    lesser(limit, above.limit)
 }
 
 // The limits of group `g` in the canonical file, where `g` has a new number and the parent `parent` there, and the groups before it are

@@ -1,7 +1,8 @@
 // The tally during the day: which rows are in, and how many of them count in each group.
 //
 // A tally is its tables, which nothing changes once it is begun, and its state, which a call on a row changes; it needs the file no more.
-// The methods do the counting: they are lent the state and the tables, and change the state alone.
+// The methods do the counting: the state goes in by value and comes back by value, and the tables are only lent, so that a call that is
+// lent a tally copies the state alone.
 //
 // A row counts at its card node and at its shop node, and at each node above these. First each node of both chains is tested for a place
 // left; then each count on them changes by 1: a refused call has nothing to undo. A walk takes tables of fixed length and a number, and its own call comes
@@ -17,7 +18,7 @@ ghost use Rattle.tally.specs.Walks.{stepped, HasPlace, HasPlaces, Counted, Count
 ghost use Rattle.tally.specs.Tally.{tally, PutIn, TakenOut, Shows};
 
 use answers::TallyCountAnswer;
-use refusal::{Reason, number};
+use refusal::{Reason, number, outcome_number};
 use theory::{MAX_GROUPS, MAX_ROWS};
 
 // Card group g is node g, and shop group h is node cards + h. NODES stands for what is above the tops of both sides.
@@ -49,6 +50,13 @@ pub struct State {
 #[derive(Drop)]
 pub struct Tally {
     pub tables: [u16; CELLS],
+    pub state: State,
+}
+
+// What putting in and taking out answer: 0 or the number of the refusal, with the state as it is then.
+#[derive(Drop)]
+pub struct Placed {
+    pub number: u32,
     pub state: State,
 }
 
@@ -176,34 +184,46 @@ fn node_of(cards: usize, shops: usize, side: u32, group: u32) -> usize
 }
 
 impl State {
+    // stays: a rule of the project: the calls of `till` are lent a tally, are thin, and stand on methods by value that do the counting.
+    //
     // stays: the new form is no plainer: `put_in` and `take_out` share `count_row`, and one function for both would take a flag, the byte and
     // the number, and its clause would name both promises.
     //
     // Puts a row in.
-    pub fn put_in(&mut self, tables: &[u16; CELLS], row: u32) -> Result<(), Reason>
-        ensures { PutIn (tally tables.now self.old) row (outcome_number result) (tally tables.now self.new) }
+    pub fn put_in(mut self, tables: &[u16; CELLS], row: u32) -> Placed
+        ensures { PutIn (tally tables.now self) row result.number (tally tables.now result.state) }
     {
         let c = row as usize;
-        judge_put(tables, self, c)?;
-        count_row(tables, &mut self.counts, c, true);
-        self.selection[c] = 1;
-        Ok(())
+        let put_refusal = outcome_number(judge_put(tables, &self, c));
+        if put_refusal == 0 {
+            count_row(tables, &mut self.counts, c, true);
+            self.selection[c] = 1;
+        }
+        Placed {
+            number: put_refusal,
+            state: self,
+        }
     }
 
     // Takes a row out.
-    pub fn take_out(&mut self, tables: &[u16; CELLS], row: u32) -> Result<(), Reason>
-        ensures { TakenOut (tally tables.now self.old) row (outcome_number result) (tally tables.now self.new) }
+    pub fn take_out(mut self, tables: &[u16; CELLS], row: u32) -> Placed
+        ensures { TakenOut (tally tables.now self) row result.number (tally tables.now result.state) }
     {
         let c = row as usize;
-        judge_take(self, c)?;
-        count_row(tables, &mut self.counts, c, false);
-        self.selection[c] = 0;
-        Ok(())
+        let take_refusal = outcome_number(judge_take(&self, c));
+        if take_refusal == 0 {
+            count_row(tables, &mut self.counts, c, false);
+            self.selection[c] = 0;
+        }
+        Placed {
+            number: take_refusal,
+            state: self,
+        }
     }
 
     // How many of the rows that are in count in a group of a side (0 card, 1 shop).
-    pub fn count_of(&self, side: u32, group: u32) -> TallyCountAnswer
-        ensures { Shows self.now side group result }
+    pub fn count_of(self, side: u32, group: u32) -> TallyCountAnswer
+        ensures { Shows self side group result }
     {
         let node = node_of(self.cards, self.shops, side, group);
         if NODES <= node {

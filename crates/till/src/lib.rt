@@ -6,8 +6,8 @@
 // codes, and the calls that begin a tally, put a row in and take a row out change lent memory. A call takes a new file in the week layout;
 // of the three beside it the one with `_stored` in its name takes a stored file, the one with `_old` a file in the old layout, and the one
 // with both a stored file in the old layout. For each of the four sorts a function here makes the form, and an export is one line that gives
-// the form to the call and makes the answer's numbers, and three where a tally is begun. All take their files under the first terms; crate
-// `till_kinds` has the calls for the second.
+// the form to the call and makes the answer's numbers, and three where a row is put into a tally or taken out of it. All take their files
+// under the first terms; crate `till_kinds` has the calls for the second.
 #![tactic(auto)]
 
 ghost use Rattle.std.specs.Prelude.{◌≡◌};

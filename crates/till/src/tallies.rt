@@ -1,6 +1,8 @@
 // The calls on a tally, which is lent to each of them.
 //
-// These calls are thin: a method is lent the state and the tables, so that no call copies them. A refused call changes nothing, except that a refused beginning leaves a tally without rows or groups.
+// These calls are thin. Where a row is put in or taken out, the state goes to a method by value and comes back, and for a count it goes to
+// one; the tables are lent by themselves, so that no call copies them. A beginning is lent both. A refused call changes nothing, except that
+// a refused beginning leaves a tally without rows or groups.
 ghost use Rattle.claimfile.specs.File.{new_week, stored_week, new_old, stored_old};
 ghost use Rattle.tally.specs.Tally.{PutIn, TakenOut, CountRead};
 ghost use Rattle.tallytables.specs.Begin.{Started};
@@ -48,7 +50,9 @@ pub extern "C" fn claims_tally_begin_old_stored(file: &[u8], day: u32, tally: &m
 pub extern "C" fn claims_tally_put_in(tally: &mut Tally, row: u32) -> u32
     ensures { PutIn tally.old row result tally.new }
 {
-    outcome_number(tally.state.put_in(&tally.tables, row))
+    let placed = tally.state.put_in(&tally.tables, row);
+    tally.state = placed.state;
+    placed.number
 }
 
 // Takes a row out.
@@ -56,7 +60,9 @@ pub extern "C" fn claims_tally_put_in(tally: &mut Tally, row: u32) -> u32
 pub extern "C" fn claims_tally_take_out(tally: &mut Tally, row: u32) -> u32
     ensures { TakenOut tally.old row result tally.new }
 {
-    outcome_number(tally.state.take_out(&tally.tables, row))
+    let placed = tally.state.take_out(&tally.tables, row);
+    tally.state = placed.state;
+    placed.number
 }
 
 // How many of the rows that are in count in a group of a side (0 card, 1 shop).

@@ -11,20 +11,20 @@ use Rattle.canonical.specs.Write.{Writes}
 use Rattle.canonical.proofs.WriteLaws.{writes-refused, writes_short, writes-written}
 use Rattle.canonical.proofs.write_canonical.Goals as goal
 
-pub week_length-requires : goal.week_length-requires
-week_length-requires c =
+pub week_length-least-requires : goal.week_length-least-requires
+week_length-least-requires c =
     let sound = accepted-sound _ _ _ (sym c.read.ensures ∙ c.in_ok-layout.was) in
     (sound.cards_most, sound.shops_most, sound.rows_most)
 
-pub returns-then-out-week_length : goal.returns-then-out-week_length
-returns-then-out-week_length c =
+pub returns-then-out-least : goal.returns-then-out-least
+returns-then-out-least c =
     let a = c.args in
     writes_short a.form a.file.now a.out.now _ (sym c.read.ensures ∙ c.in_ok-layout.was)
-    (omega (arith, c.week_length.ensures))
+    (omega (arith, c.week_length-least.ensures))
 
 pub canonical_on-requires : goal.canonical_on-requires
 canonical_on-requires c =
-    (accepted-sound _ _ _ (sym c.read.ensures ∙ c.in_ok-layout.was), omega (arith, c.week_length.ensures))
+    (accepted-sound _ _ _ (sym c.read.ensures ∙ c.in_ok-layout.was), omega (arith, c.week_length-least.ensures))
 
 pub returns-in_err-layout : goal.returns-in_err-layout
 returns-in_err-layout c =
@@ -37,4 +37,4 @@ pub returns : goal.returns
 returns c =
     let a = c.args in
     writes-written a.form a.file.now a.out.now _ (sym c.read.ensures ∙ c.in_ok-layout.was) _ _
-    (omega (arith, c.week_length.ensures)) c.canonical_on.ensures
+    (omega (arith, c.week_length-least.ensures)) c.canonical_on.ensures

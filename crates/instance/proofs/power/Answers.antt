@@ -9,4 +9,5 @@ pow-requires c = rw c.from.ensures (omega (arith, power-most c.args.rows c.args.
 pub returns : goal.returns
 returns c =
     let is = rw c.from.ensures at c.pow.ensures in
-    (is, omega (arith, is, power-most c.args.rows c.args.kind c.requires.0 c.requires.1))
+    let most = power-most c.args.rows c.args.kind c.requires.0 c.requires.1 in
+    (omega (arith, is, most), omega (arith, is, most))

@@ -1,5 +1,5 @@
 -- The loop's invariant: the lists are those of the items from child v on. The children are linked from the last one down, each before all
--- that is linked already (`link-then`).
+-- that is linked already.
 use Prim.Native.Nat.{◌+◌}
 use Rattle.residual.specs.Items.{LinkOf}
 use Rattle.residual.proofs.lists.link_children.Given as goal

@@ -1,5 +1,5 @@
 -- The loop's invariant: the lists are those of the items from row c on. The rows are linked from the last one down, each before all that is
--- linked already (`link-then`).
+-- linked already.
 use Rattle.residual.specs.Items.{LinkOf}
 use Rattle.residual.proofs.lists.link_rows.Given as goal
 

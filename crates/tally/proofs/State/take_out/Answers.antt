@@ -1,24 +1,17 @@
--- `take_out` meets its contract. A row that is turned away leaves the state as it was; else the row is there, and it is counted and taken out.
-use mathlib.Core.Path.{sym, ◌∙◌, ap}
-use mathlib.Core.Logic.{◌≢◌}
+-- `take_out` meets its contract. A number other than 0 leaves the state as it was; else the row is there, and it is counted and taken out.
 use native.Mathlib.Omega.{arith}
-use Rattle.refusal.specs.Table.{outcome_number}
-use Rattle.refusal.proofs.TableLaws.{number-some}
-use Rattle.reader.proofs.PassedLaws.{passed-on}
 use Rattle.tally.proofs.CallLaws.{take-refused, take_done}
 use Rattle.tally.proofs.State.take_out.Goals as goal
 
-pub returns-in_err-judge_take : goal.returns-in_err-judge_take
-returns-in_err-judge_take c =
+pub returns-then-take_refusal-eq0 : goal.returns-then-take_refusal-eq0
+returns-then-take_refusal-eq0 c =
     let a = c.args in
-    let why = c.in_err-judge_take.field-0.0 in
-    let told = passed-on c.from_residual.result why c.from_residual.ensures.1 in
-    let some : outcome_number c.judge_take.result ≢ 0 = λ none. omega (arith, number-some why, ap outcome_number c.in_err-judge_take.was, none) in
-    rw (told ∙ sym c.in_err-judge_take.was)
-    (take-refused a.tables.now a.self.now a.row (outcome_number c.judge_take.result) c.judge_take.ensures some)
+    let told = rw (← c.outcome_number-take_refusal.ensures) at c.judge_take.ensures in
+    take_done a.tables.now a.self a.row c.outcome_number-take_refusal.result told (omega arith) _
+    c.count_row.ensures _ (omega arith)
 
-pub returns : goal.returns
-returns c =
+pub returns-else-take_refusal-eq0 : goal.returns-else-take_refusal-eq0
+returns-else-take_refusal-eq0 c =
     let a = c.args in
-    let told = rw c.in_ok-judge_take.was at c.judge_take.ensures in
-    take_done a.tables.now a.self.now a.row 0 told (omega arith) _ c.count_row.ensures _ (omega arith)
+    let told = rw (← c.outcome_number-take_refusal.ensures) at c.judge_take.ensures in
+    take-refused a.tables.now a.self a.row c.outcome_number-take_refusal.result told c.if-take_refusal-eq0.false
